@@ -1,0 +1,5 @@
+pub mod Algebra
+pub mod Quantity
+pub mod LatestDay
+pub mod Messages
+pub mod Lists
