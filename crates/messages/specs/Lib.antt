@@ -3,3 +3,4 @@ pub mod Quantity
 pub mod LatestDay
 pub mod Messages
 pub mod Lists
+pub mod Places

@@ -2,5 +2,6 @@
 pub mod entry;
 pub mod kind;
 pub mod latest_day;
+pub mod list;
 pub mod message;
 pub mod quantity;
