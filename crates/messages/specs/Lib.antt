@@ -4,3 +4,5 @@ pub mod LatestDay
 pub mod Messages
 pub mod Lists
 pub mod Places
+pub mod Words
+pub mod Examples
