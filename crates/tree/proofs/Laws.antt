@@ -24,7 +24,7 @@ use Rattle.tree.proofs.Total.{one-page, all-pages, within-min, next-none, next
 pub map-law : Map-law
 map-law K h ks k lt =
     let q = queries K (grown K h) (grown-tree K h ks) k lt in
-    record { value = q .0 ∙ grown-says K h ks k lt; reads = q .1 }
+    record { stands = grown-says K h ks k lt; value = q .0 ∙ grown-says K h ks k lt; reads = q .1 }
 
 pub update-law : Update-law
 update-law K h ks k m lt =

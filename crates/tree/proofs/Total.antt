@@ -15,7 +15,7 @@ use Rattle.messages.specs.Lists.{Within, below, find}
 use Rattle.messages.specs.declared.entry.Entry.{Entry}
 use Rattle.tree.specs.Lookup.{lookup}
 use Rattle.tree.specs.Nodes.{Node}
-use Rattle.tree.specs.Query.{entries-from, leaf-frame, page, slice, whole-page}
+use Rattle.tree.specs.Query.{entries-from, following, leaf-frame, page, slice, whole-page}
 use Rattle.tree.specs.Shape.{Tree}
 use Rattle.tree.proofs.Lists.{within-above, within-below, within-take, within-wider, find-under, find-append, find-append′}
 use Rattle.tree.proofs.Query.{pages, within-slice}
@@ -68,10 +68,11 @@ module _ (K : Algebra) (a : List Node) (t : Tree a) where
   all-pages zero first last h g le = let o = one-page first last (omega arith) in (o .in-range, λ k x y. o .exact k x y (omega (arith, o .upto)))
   all-pages (suc n) first last h g le =
       let o = one-page first last (omega arith) in
-      let c = slice first (suc last) (whole-page K a first) in
+      let c = page K a first last .entries in
       let end = leaf-frame a first .high in
-      cond-both (ltb last end) [] (entries-from K n a end last)
-      (λ ys. Within first (suc last) (c ++ ys) × ((k : ℕ) → first ≤ k → k ≤ last → find k (c ++ ys) ≡ lookup K a k))
+      let go = following (λ k. entries-from K n a k last) in
+      cond-both (ltb last end) None (Some end)
+      (λ next. Within first (suc last) (c ++ go next) × ((k : ℕ) → first ≤ k → k ≤ last → find k (c ++ go next) ≡ lookup K a k))
       (λ e. (rw append-nil (o .in-range), λ k x y. rw append-nil (o .exact k x y (omega (arith, ltb-true last end e)))))
       (λ e.
       let le′ : end ≤ last = ltb-false last end e in
