@@ -1,14 +1,14 @@
 -- The laws of every tree that updates grow from a fresh one. Each is the contract of a function in src/lib.rt.
 use mathlib.Core.Path.{_≡_}
 use mathlib.Core.Logic.{_≢_}
-use mathlib.Core.Bool.{cond}
-use mathlib.Core.List.{List, [], _∷_}
+use mathlib.Core.Bool.{true, false}
+use mathlib.Core.List.{List, [], _∷_, _++_}
 use Prim.Native.Nat.{ℕ, zero, suc, _+_, _-_, _*_, _%_, _^_, _≤_, _<_, min}
 use lib.IntN.{ℤ, pos, natAbs, _+ℤ_}
-use lib.ListN.{length}
+use lib.ListN.{length, getD}
 use Rattle.std.specs.declared.option.Option.the-variants.{Some, None}
 use Rattle.messages.specs.Algebra.{Algebra}
-use Rattle.messages.specs.Lists.{entry, find, batch-size, most-moving, Within}
+use Rattle.messages.specs.Lists.{entry, find, pending, batch-size, most-moving, Within}
 use Rattle.messages.specs.Messages.{effect}
 use Rattle.messages.specs.Quantity.{quantity-algebra}
 use Rattle.messages.specs.Words.{signed}
@@ -18,10 +18,10 @@ use Rattle.messages.specs.declared.message.Message.the-variants.{Put, Remove, A
 use Rattle.tree.specs.Limits.{most-entries}
 use Rattle.tree.specs.Lookup.{lookup, said}
 use Rattle.tree.specs.Nodes.{Node, node, height, next-free}
-use Rattle.tree.specs.Operations.{joined}
+use Rattle.tree.specs.Operations.{joined, split-key, lower-half, upper-half}
 use Rattle.tree.specs.Query.{query, page, leaf-frame, entries}
 use Rattle.tree.specs.Shape.{Good-tree}
-use Rattle.tree.specs.Update.{prepared, target, after-step, raised, update, writes, grown, tree-writes}
+use Rattle.tree.specs.Update.{pending-for, busiest-place, busiest-child, is-full, prepared, target, after-step, raised, update, writes, grown, tree-writes}
 
 -- all keys are below 2^32
 abbrev pub Keys : List (Entry Message) → Type 0
@@ -113,6 +113,46 @@ Full-batches K (suc l) a p =
 abbrev pub Batch-law : Type 0
 Batch-law = (K : Algebra) (h : List (Entry Message)) → Keys h → (k : ℕ) (m : Message) → k < 2 ^ 32
     → let a = raised (grown K h) in Full-batches K (height a) (joined K k m a) 0
+
+-- ---- choices
+-- the messages of p pending for the lower and for the upper half of c
+abbrev pub pending-below : List Node → ℕ → ℕ → ℕ
+pending-below a p c = pending (node a c .frame .low) (split-key (node a c .frame .level) (node a c)) (node a p .messages)
+
+abbrev pub pending-above : List Node → ℕ → ℕ → ℕ
+pending-above a p c = pending (split-key (node a c .frame .level) (node a c)) (node a c .frame .high) (node a p .messages)
+
+-- messages go to the child of p with most of them pending, the lowest at a tie; of a full child, to the half with more, the lower at a tie
+pub record Choice (a : List Node) (p : ℕ) : Type 0 where
+  pub place-in : busiest-place a p < length (node a p .frame .children)
+  pub most : (i : ℕ) → i < length (node a p .frame .children)
+      → pending-for a (node a p .messages) (getD (node a p .frame .children) i 0) ≤ pending-for a (node a p .messages) (busiest-child a p)
+  pub lowest : (i : ℕ) → i < busiest-place a p
+      → pending-for a (node a p .messages) (getD (node a p .frame .children) i 0) < pending-for a (node a p .messages) (busiest-child a p)
+  pub not-full : is-full (node a (busiest-child a p)) ≡ false → target a p ≡ busiest-child a p
+  pub upper : is-full (node a (busiest-child a p)) ≡ true → pending-below a p (busiest-child a p) < pending-above a p (busiest-child a p) → target a p ≡ next-free a
+  pub lower : is-full (node a (busiest-child a p)) ≡ true → pending-above a p (busiest-child a p) ≤ pending-below a p (busiest-child a p) → target a p ≡ busiest-child a p
+
+abbrev pub Choice-law : Type 0
+Choice-law = (a : List Node) (p : ℕ) → 0 < length (node a p .frame .children) → Choice a p
+
+-- a leaf is split into two halves of its records, the odd one in the lower
+pub record Leaf-halves (x : Node) : Type 0 where
+  pub records-kept : lower-half 0 x .records ++ upper-half 0 x .records ≡ x .records
+  pub even : length (x .records) % 2 ≡ 0 → length (lower-half 0 x .records) ≡ length (upper-half 0 x .records)
+  pub odd : length (x .records) % 2 ≡ 1 → length (lower-half 0 x .records) ≡ length (upper-half 0 x .records) + 1
+
+-- an inner node of 8 children is split into 4 and 4 at the pivot between them, and its messages with them
+pub record Inner-halves (l : ℕ) (x : Node) : Type 0 where
+  pub lower-children : length (lower-half (suc l) x .frame .children) ≡ 4
+  pub upper-children : length (upper-half (suc l) x .frame .children) ≡ 4
+  pub children-kept : lower-half (suc l) x .frame .children ++ upper-half (suc l) x .frame .children ≡ x .frame .children
+  pub pivots-kept : lower-half (suc l) x .frame .pivots ++ split-key (suc l) x ∷ upper-half (suc l) x .frame .pivots ≡ x .frame .pivots
+  pub messages-kept : lower-half (suc l) x .messages ++ upper-half (suc l) x .messages ≡ x .messages
+
+pub record Split-law : Type 0 where
+  pub leaves : (x : Node) → Leaf-halves x
+  pub inner-nodes : (l : ℕ) (x : Node) → length (x .frame .children) ≡ 8 → length (x .frame .pivots) ≡ 7 → Inner-halves l x
 
 -- ---- wear
 pub record Wear (K : Algebra) (h : List (Entry Message)) : Type 0 where
