@@ -1,19 +1,17 @@
 -- Where messages go, and how a node is halved.
 use mathlib.Core.Path.{_≡_, refl, ap, sym, _∙_}
-use mathlib.Core.Bool.{true, false, cond}
 use mathlib.Core.List.{List, [], _∷_, _++_}
-use Prim.Native.Nat.{ℕ, zero, suc, _+_, _-_, _/_, _%_, _≤_, _<_}
+use Prim.Native.Nat.{ℕ, zero, suc, _-_, _<_}
 use native.Mathlib.Omega.{arith}
-use lib.Dec.{leb}
 use lib.ListN.{length, take, drop, getD, length-take, length-drop}
 use Rattle.std.proofs.shelf.Lists.{take-append-drop, drop-more}
 use Rattle.std.proofs.shelf.Tests.{lt-ltb, le-ltb}
 use Rattle.std.proofs.shelf.Ways.{tells}
 use Rattle.messages.specs.Lists.{below}
-use Rattle.tree.specs.Laws.{pending-below, pending-above, Choice, Choice-law, Leaf-halves, Inner-halves, Split-law}
+use Rattle.tree.specs.Laws.{pending-below, pending-above, Choice-law, Leaf-halves, Inner-halves, Split-law}
 use Rattle.tree.specs.Nodes.{Node, node}
 use Rattle.tree.specs.Operations.{half-length}
-use Rattle.tree.specs.Update.{pending-for, pending-counts, largest, busiest-place, busiest-child}
+use Rattle.tree.specs.Update.{pending-counts, largest, busiest-place, busiest-child}
 use Rattle.tree.proofs.Lengths.{largest-is, largest-in, length-counts, getD-counts}
 
 -- what stands before the largest is smaller

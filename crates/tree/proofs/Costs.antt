@@ -1,21 +1,21 @@
 -- What one update costs: its writes, the blocks that it takes, and the full batches that it moves.
-use mathlib.Core.Path.{_≡_, refl, ap, sym, _∙_}
+use mathlib.Core.Path.{_≡_, refl, ap}
 use mathlib.Core.Bool.{Bool, true, false, cond}
-use mathlib.Core.List.{List, [], _∷_, _++_}
-use Prim.Native.Nat.{ℕ, zero, suc, _+_, _*_, _^_, _≤_, _<_}
+use mathlib.Core.List.{List, [], _∷_}
+use Prim.Native.Nat.{ℕ, zero, suc, _+_, _*_, _≤_, _<_}
 use native.Mathlib.Omega.{arith}
 use lib.Dec.{eqb, ltb}
-use lib.ListN.{length, set, length-append, length-set}
+use lib.ListN.{length, length-append, length-set}
 use Rattle.std.proofs.shelf.Tests.{cond-both}
 use Rattle.messages.specs.Algebra.{Algebra}
-use Rattle.messages.specs.Lists.{below, entry, join-in}
+use Rattle.messages.specs.Lists.{entry}
 use Rattle.messages.specs.declared.entry.Entry.{Entry}
 use Rattle.messages.specs.declared.message.Message.{Message}
-use Rattle.tree.specs.Laws.{Keys, Cost, Cost-law, Full-batches, Batch-law}
+use Rattle.tree.specs.Laws.{Cost-law, Full-batches, Batch-law}
 use Rattle.tree.specs.Nodes.{Node, node, height}
-use Rattle.tree.specs.Operations.{cut-root, joined, moved, split-child}
-use Rattle.tree.specs.Shape.{Tree}
-use Rattle.tree.specs.Update.{busiest-child, busiest-place, is-full, upper-goes-on, prepared, target, after-step, run-steps, raised, step-writes, update, writes, grown}
+use Rattle.tree.specs.Operations.{cut-root, joined, split-child}
+use Rattle.tree.proofs.Structure.{Tree}
+use Rattle.tree.specs.Update.{busiest-child, busiest-place, is-full, prepared, target, after-step, run-steps, raised, step-writes, grown}
 use Rattle.tree.proofs.Grown.{held, grown-tree}
 use Rattle.tree.proofs.Lists.{size-full}
 use Rattle.tree.proofs.Update.{Going, starts, step-ok, step-pending}

@@ -1,20 +1,18 @@
 -- What holds of every tree that updates grow: it is reached by operations, its sizes are right, and its writes are counted.
-use mathlib.Core.Path.{_≡_, refl, ap, sym, subst, subst₂, _∙_}
-use mathlib.Core.Bool.{Bool, true, false, cond}
+use mathlib.Core.Path.{_≡_, refl, ap, subst, subst₂}
 use mathlib.Core.List.{List, [], _∷_, map}
 use Prim.Native.Nat.{ℕ, zero, suc, _+_, _-_, _*_, _^_, _≤_, _<_}
 use native.Mathlib.Omega.{arith}
-use lib.Dec.{eqb, ltb}
 use lib.ListN.{length, getD}
 use Rattle.std.proofs.shelf.Lists.{length-map}
 use Rattle.messages.specs.Algebra.{Algebra}
 use Rattle.messages.specs.declared.entry.Entry.{Entry}
 use Rattle.messages.specs.declared.message.Message.{Message}
-use Rattle.tree.specs.Laws.{Keys, Wear, Wear-law}
+use Rattle.tree.specs.Laws.{Keys, Wear-law}
 use Rattle.tree.specs.Lookup.{lookup, said}
-use Rattle.tree.specs.Nodes.{Node, node, height}
+use Rattle.tree.specs.Nodes.{Node, height}
 use Rattle.tree.specs.Operations.{fresh}
-use Rattle.tree.specs.Shape.{Tree, All-sized}
+use Rattle.tree.proofs.Structure.{Tree, All-sized}
 use Rattle.tree.specs.Update.{grown, tree-writes}
 use Rattle.tree.proofs.Wear.{Shape, shape}
 use Rattle.tree.proofs.Reached.{Reached, shape-of}

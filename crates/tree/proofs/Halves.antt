@@ -1,26 +1,24 @@
--- ---- children in two
+-- The halves of a node share its keys, its messages and its children.
 use mathlib.Core.Path.{_≡_, refl, ap, sym, subst, _∙_}
-use mathlib.Core.Logic.{_≢_, _⊎_, inl, inr, ⊎-elim}
-use mathlib.Core.Bool.{Bool, true, false, cond}
+use mathlib.Core.Bool.{cond}
 use mathlib.Core.List.{List, [], _∷_, _++_}
-use Prim.Native.Nat.{ℕ, zero, suc, _+_, _-_, _*_, _^_, _≤_, _<_}
+use Prim.Native.Nat.{ℕ, zero, suc, _≤_, _<_}
 use native.Mathlib.Omega.{arith}
 use lib.ListN.{length, take, drop, getD}
-use lib.Dec.{eqb, ltb}
-use Rattle.std.specs.declared.option.Option.{Option}
-use Rattle.std.specs.declared.option.Option.the-variants.{Some, None}
-use Rattle.std.proofs.shelf.Tests.{cases-lt, lt-ltb, le-ltb}
+use lib.Dec.{ltb}
+use Rattle.std.proofs.shelf.Tests.{lt-ltb, le-ltb}
 use Rattle.std.proofs.shelf.Lists.{take-append-drop}
 use Rattle.messages.specs.Lists.{Within, below, find}
 use Rattle.messages.specs.declared.entry.Entry.{Entry}
 use Rattle.tree.proofs.Reached.{Halved}
 use Rattle.tree.specs.Nodes.{Node, pick}
 use Rattle.tree.specs.Operations.{key-at, lower-inner, lower-leaf, upper-inner, upper-leaf}
-use Rattle.tree.specs.Shape.{Children, Sound}
-use Rattle.tree.proofs.Lists.{within-below, within-above, acts-low, acts-high, find-under, find-append, find-append′, within-wider}
+use Rattle.tree.proofs.Structure.{Children, Sound}
+use Rattle.tree.proofs.Lists.{within-below, within-above, acts-low, acts-high, find-under, find-append, find-append′}
 use Rattle.tree.proofs.Frames.{children-some}
 use Rattle.tree.proofs.Move.{inner-sound, leaf-sound}
 
+-- ---- children in two
 children-low : (a : List Node) (l low high i : ℕ) (cs ps : List ℕ) → Children a l low high cs ps → i < length ps → Children a l low (getD ps i 0) (take (suc i) cs) (take i ps)
 children-low a l low high i [] ps h high′ = absurd h
 children-low a l low high i (c ∷ cs) [] h high′ = absurd (omega arith)

@@ -1,19 +1,14 @@
 -- The laws of queries, updates, pages and totals.
-use mathlib.Core.Path.{_≡_, refl, ap, sym, _∙_}
-use mathlib.Core.Logic.{_≢_}
-use mathlib.Core.List.{List, [], _∷_}
-use Prim.Native.Nat.{ℕ, suc, _+_, _-_, _*_, _^_, _≤_, _<_}
+use mathlib.Core.Path.{refl, ap, sym, _∙_}
+use mathlib.Core.List.{_∷_}
+use Prim.Native.Nat.{suc, _-_, _^_}
 use native.Mathlib.Nat.{mul-le-mul-left}
 use native.Mathlib.Omega.{arith}
-use lib.ListN.{length}
 use Rattle.std.proofs.shelf.Tests.{eq-eqb, ne-eqb}
 use Rattle.messages.specs.Lists.{entry}
 use Rattle.messages.specs.Messages.{effect}
 use Rattle.messages.specs.Quantity.{quantity-algebra}
-use Rattle.messages.specs.declared.entry.Entry.{Entry}
-use Rattle.messages.specs.declared.message.Message.{Message}
 use Rattle.tree.specs.Laws.{Map-law, Update-law, Page-law, Total-law, Sum-law}
-use Rattle.tree.specs.Lookup.{said}
 use Rattle.tree.specs.Nodes.{height}
 use Rattle.tree.specs.Update.{grown}
 use Rattle.tree.proofs.Grown.{held, grown-tree, grown-says}

@@ -1,24 +1,22 @@
-use mathlib.Core.Path.{_≡_, refl, ap, sym, subst, _∙_}
-use mathlib.Core.Logic.{_≢_, _⊎_, inl, inr, ⊎-elim}
-use mathlib.Core.Bool.{Bool, true, false, cond}
-use mathlib.Core.List.{List, [], _∷_, _++_}
-use Prim.Native.Nat.{ℕ, zero, suc, _+_, _-_, _*_, _≤_, _<_, min}
+-- Lengths of lists, and the child with most pending messages.
+use mathlib.Core.Path.{_≡_, refl, ap}
+use mathlib.Core.List.{List, [], _∷_}
+use Prim.Native.Nat.{ℕ, zero, suc, _+_, _*_, _≤_, _<_}
 use native.Mathlib.Omega.{arith}
 use native.Mathlib.Nat.{mul-le-mul-right}
-use lib.ListN.{length, take, drop, getD, length-take, length-drop, length-append}
-use lib.Dec.{eqb, ltb, leb}
+use lib.ListN.{length, getD, length-take, length-drop, length-append}
 use Rattle.std.specs.declared.option.Option.{Option}
 use Rattle.std.specs.declared.option.Option.the-variants.{Some, None}
 use Rattle.std.proofs.shelf.Ways.{tells}
 use Rattle.std.proofs.shelf.Tests.{lt-ltb, le-ltb}
 use Rattle.messages.specs.Algebra.{Algebra}
-use Rattle.messages.specs.Lists.{Within, act-in, acts-in, batch, below, join-in, joins, pending, put-first, rest}
+use Rattle.messages.specs.Lists.{Within, act-in, acts-in, batch, below, join-in, joins, put-first, rest}
 use Rattle.messages.specs.Messages.{effect}
 use Rattle.messages.specs.declared.entry.Entry.{Entry}
 use Rattle.messages.specs.declared.message.Message.{Message}
 use Rattle.tree.proofs.Lists.{size-full}
-use Rattle.tree.specs.Nodes.{Node, child, node}
-use Rattle.tree.specs.Shape.{Children}
+use Rattle.tree.specs.Nodes.{Node}
+use Rattle.tree.proofs.Structure.{Children}
 use Rattle.tree.specs.Update.{largest, pending-counts, pending-for}
 
 pub length-join : (K : Algebra) (k : ℕ) (m : Message) (xs : List (Entry Message)) → (length xs ≤ length (join-in K k m xs)) × (length (join-in K k m xs) ≤ length xs + 1)

@@ -1,3 +1,4 @@
+pub mod Structure
 pub mod Wear
 pub mod Sums
 pub mod Keeps

@@ -1,11 +1,10 @@
 -- A query gives what stands for the key, a page what stands for the keys of a leaf.
 use mathlib.Core.Path.{_≡_, refl, ap, sym, subst, _∙_}
-use mathlib.Core.Logic.{_≢_, _⊎_, inl, inr, ⊎-elim}
-use mathlib.Core.Bool.{Bool, true, false, cond}
-use mathlib.Core.List.{List, [], _∷_, _++_}
-use Prim.Native.Nat.{ℕ, zero, suc, _+_, _-_, _*_, _%_, _^_, _≤_, _<_, max}
+use mathlib.Core.Logic.{⊎-elim}
+use mathlib.Core.List.{List, [], _∷_}
+use Prim.Native.Nat.{ℕ, zero, suc, _+_, _*_, _^_, _≤_, _<_}
 use native.Mathlib.Omega.{arith}
-use lib.ListN.{length, getD, take, drop, length-take, length-drop}
+use lib.ListN.{length, drop, length-take, length-drop}
 use Rattle.std.specs.declared.option.Option.{Option}
 use Rattle.std.specs.declared.option.Option.the-variants.{Some, None}
 use Rattle.std.proofs.shelf.Tests.{cases-lt, cases-eq, eq-eqb, ne-eqb, lt-ltb, le-ltb}
@@ -17,11 +16,12 @@ use Rattle.messages.specs.declared.message.Message.{Message}
 use Rattle.tree.specs.Lookup.{acts, look, lookup}
 use Rattle.tree.specs.Nodes.{Node, child, node, height}
 use Rattle.tree.specs.Query.{Answer, acted, ask, joined-before, leaf-of, leaf-frame, leaf-page, path, page, query, settle, slice, whole-page}
-use Rattle.tree.specs.Shape.{In, Tree, All-sized}
+use Rattle.tree.proofs.Structure.{Tree, All-sized}
+use Rattle.tree.specs.Shape.{In}
 use Rattle.messages.specs.declared.message.Message.the-variants.{Put, Remove, Add}
 use Rattle.tree.proofs.Lists.{acts-under, fold-law, within-above, within-below, acts-high, acts-low, within-acts-in, find-acts-in}
 use Rattle.tree.proofs.Move.{took, inner-sound, leaf-sound}
-use Rattle.tree.proofs.Frames.{Took, Part, children-pick}
+use Rattle.tree.proofs.Frames.{children-pick}
 use Rattle.tree.proofs.Lengths.{length-acts}
 
 -- what one message, if any, makes of what a key holds

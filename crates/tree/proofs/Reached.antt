@@ -1,5 +1,4 @@
 -- Trees that the operations reach in any order, and what each asks.
--- Block c is the child at place j of block p, with at least 16 messages pending.
 use mathlib.Core.Path.{_≡_}
 use mathlib.Core.Logic.{_⊎_}
 use mathlib.Core.List.{List, [], _∷_, map}
@@ -13,9 +12,10 @@ use Rattle.messages.specs.declared.message.Message.{Message}
 use Rattle.tree.specs.Lookup.{acts}
 use Rattle.tree.specs.Nodes.{Node, child, node}
 use Rattle.tree.specs.Operations.{cut-root, fresh, joined, moved, split-child}
-use Rattle.tree.specs.Shape.{Sound}
+use Rattle.tree.proofs.Structure.{Sound}
 use Rattle.tree.proofs.Wear.{Shape, shape, State}
 
+-- Block c is the child at place j of block p, with at least 16 messages pending.
 pub record Can-move (a : List Node) (p j c : ℕ) : Type 0 where
   pub p-in : p < length a
   pub j-in : j < length (node a p .frame .children)
@@ -56,7 +56,7 @@ pub record Child-at (a : List Node) (p j c : ℕ) : Type 0 where
   pub is : getD (node a p .frame .children) j 0 ≡ c
   pub inner : 0 < node a p .frame .level
 
--- The nodes that micro-operations reach from those laid out, with the updates so far, the newest first, and the number of moves.
+-- The trees that operations reach from a fresh one, with the messages so far, the newest first, and the number of moves.
 pub data Reached (K : Algebra) : List Node → List (Entry Message) → ℕ → Type 0 where
   start : Reached K fresh [] 0
   join : {a : List Node} {h : List (Entry Message)} {n : ℕ} (k : ℕ) (m : Message) → k < 2 ^ 32 → Reached K a h n → Reached K (joined K k m a) (entry k m ∷ h) n

@@ -1,20 +1,16 @@
 -- No node of a grown tree breaks a rule.
-use mathlib.Core.Path.{_≡_, refl, ap, sym, subst, _∙_}
-use mathlib.Core.List.{List, [], _∷_, map}
-use Prim.Native.Nat.{ℕ, zero, suc, _+_, _^_, _≤_, _<_}
+use mathlib.Core.Path.{_≡_, refl, ap, sym, subst}
+use mathlib.Core.List.{List, [], _∷_}
+use Prim.Native.Nat.{ℕ, zero, suc, _≤_, _<_}
 use native.Mathlib.Omega.{arith}
 use lib.ListN.{length, getD}
-use Rattle.std.proofs.shelf.Lists.{length-map}
-use Rattle.messages.specs.Algebra.{Algebra}
 use Rattle.messages.specs.Lists.{Within}
-use Rattle.messages.specs.declared.entry.Entry.{Entry}
-use Rattle.messages.specs.declared.message.Message.{Message}
-use Rattle.tree.specs.Laws.{Keys, Shape-law}
+use Rattle.tree.specs.Laws.{Shape-law}
 use Rattle.tree.specs.Nodes.{Frame, Node, node, height}
-use Rattle.tree.specs.Shape.{Child, Children, Sound, Tree, All-sized, Rising, Good-child, Good-node, Good-tree}
+use Rattle.tree.proofs.Structure.{Child, Children, Tree, All-sized}
+use Rattle.tree.specs.Shape.{Rising, Good-child, Good-node}
 use Rattle.tree.specs.Update.{grown}
-use Rattle.tree.proofs.Wear.{Shape, shape}
-use Rattle.tree.proofs.Reached.{shape-of}
+use Rattle.tree.proofs.Wear.{Shape}
 use Rattle.tree.proofs.Frames.{children-some}
 use Rattle.tree.proofs.Grown.{held, grown-tree}
 use Rattle.tree.proofs.Invariants.{inv, level-up}
@@ -43,7 +39,7 @@ good-child a l f j e h g =
     record { not-root = c .not-root; taken = c .inside; one-lower = omega (arith, c .level-is); from = c .from; upto = c .upto }
 
 module _ (a : List Node) (t : Tree a) (z : All-sized a) (root-children : 1 ≤ length (node a 0 .frame .children)) (high-root : 2 ≤ height a → 2 ≤ length (node a 0 .frame .children)) where
-  good-leaf : (b : ℕ) → b < length a → Plain (node a b) → node a b .frame .level ≡ 0 → Good-node a b
+  good-leaf : (b : ℕ) → b < length a → Plain (node a b) → node a b .frame .level ≡ 0 → Good-node a b (node a b)
   good-leaf b h p e =
       let n = p .leaf e in
       let lower : b ≡ 0 → ⊥ = λ i. (let r : node a b .frame .level ≡ height a = ap (λ x. node a x .frame .level) i in omega (arith, t .root-inner)) in
@@ -64,7 +60,7 @@ module _ (a : List Node) (t : Tree a) (z : All-sized a) (root-children : 1 ≤ l
         records-rise = leaf-sound a _ (node a b) e (t .sound b h);
       }
 
-  good-inner : (b l : ℕ) → b < length a → Plain (node a b) → node a b .frame .level ≡ suc l → Good-node a b
+  good-inner : (b l : ℕ) → b < length a → Plain (node a b) → node a b .frame .level ≡ suc l → Good-node a b (node a b)
   good-inner b l h p e =
       let s = inner-sound a l _ (node a b) e (t .sound b h) in
       let f = node a b .frame in
@@ -85,7 +81,7 @@ module _ (a : List Node) (t : Tree a) (z : All-sized a) (root-children : 1 ≤ l
         records-rise = subst (Within (f .low) (f .high)) (sym (p .inner (omega arith))) tt;
       }
 
-  good : (b l : ℕ) → b < length a → Plain (node a b) → node a b .frame .level ≡ l → Good-node a b
+  good : (b l : ℕ) → b < length a → Plain (node a b) → node a b .frame .level ≡ l → Good-node a b (node a b)
   good b zero h p e = good-leaf b h p e
   good b (suc l) h p e = good-inner b l h p e
 

@@ -1,9 +1,8 @@
 -- Page by page, every present key of a range is met once, in rising order.
 use mathlib.Core.Path.{_≡_, ap, sym, _∙_}
 use mathlib.Core.Logic.{⊎-elim}
-use mathlib.Core.Bool.{cond}
 use mathlib.Core.List.{List, [], _∷_, _++_}
-use Prim.Native.Nat.{ℕ, zero, suc, _+_, _-_, _^_, _≤_, _<_, min}
+use Prim.Native.Nat.{ℕ, zero, suc, _-_, _^_, _≤_, _<_, min}
 use native.Mathlib.Omega.{arith}
 use lib.Dec.{ltb}
 use lib.ListN.{take, drop}
@@ -16,7 +15,7 @@ use Rattle.messages.specs.declared.entry.Entry.{Entry}
 use Rattle.tree.specs.Lookup.{lookup}
 use Rattle.tree.specs.Nodes.{Node}
 use Rattle.tree.specs.Query.{entries-from, following, leaf-frame, page, slice, whole-page}
-use Rattle.tree.specs.Shape.{Tree}
+use Rattle.tree.proofs.Structure.{Tree}
 use Rattle.tree.proofs.Lists.{within-above, within-below, within-take, within-wider, find-under, find-append, find-append′}
 use Rattle.tree.proofs.Query.{pages, within-slice}
 

@@ -1,13 +1,14 @@
+-- An update is made of operations, keeps all sizes, and writes what is counted.
 use mathlib.Core.Path.{_≡_, refl, ap, sym, subst, _∙_}
-use mathlib.Core.Logic.{_≢_, _⊎_, inl, inr, ⊎-elim}
+use mathlib.Core.Logic.{_≢_, inl, inr, ⊎-elim}
 use mathlib.Core.Bool.{Bool, true, false, cond}
-use mathlib.Core.List.{List, [], _∷_, _++_, map}
-use Prim.Native.Nat.{ℕ, zero, suc, _+_, _-_, _*_, _/_, _^_, _≤_, _<_, min}
+use mathlib.Core.List.{List, _∷_}
+use Prim.Native.Nat.{ℕ, zero, suc, _+_, _-_, _^_, _≤_, _<_}
 use native.Mathlib.Omega.{arith}
-use lib.ListN.{length, take, drop, getD, set, length-set, length-append, length-take, length-drop}
+use lib.ListN.{length, take, drop, length-set, length-append, length-take, length-drop}
 use lib.Dec.{eqb, ltb}
 use Rattle.std.proofs.shelf.Edits.{length-inserted, getD-inserted-below, getD-inserted-at}
-use Rattle.std.proofs.shelf.Tests.{cases-lt, cases-eq, cond-both, ltb-true, ltb-false, eqb-true, eqb-false}
+use Rattle.std.proofs.shelf.Tests.{cases-lt, cases-eq, ltb-true, ltb-false, eqb-true, eqb-false}
 use Rattle.tree.proofs.Move as mv
 use Rattle.tree.proofs.Split as sp
 use Rattle.tree.proofs.Cut as ct
@@ -16,14 +17,14 @@ use Rattle.messages.specs.Lists.{below, entry, pending}
 use Rattle.messages.specs.declared.entry.Entry.{Entry}
 use Rattle.messages.specs.declared.message.Message.{Message}
 use Rattle.tree.proofs.Reached.{Can-move, Can-split, Child-at, Full, Reached}
-use Rattle.tree.specs.Nodes.{Node, child, node}
-use Rattle.tree.specs.Operations.{absorb, cut-root, insert, joined, lower-half, moved, moving-batch, split, split-child, split-key, upper-half, with-new-child}
-use Rattle.tree.specs.Shape.{All-sized, Sized, Tree}
+use Rattle.tree.specs.Nodes.{Node, node}
+use Rattle.tree.specs.Operations.{absorb, cut-root, insert, joined, lower-half, moved, moving-batch, split-child, split-key, upper-half, with-new-child}
+use Rattle.tree.proofs.Structure.{All-sized, Sized, Tree}
 use Rattle.tree.specs.Update.{after-step, busiest-child, busiest-place, full-at, is-full, pending-for, raised, run-steps, step-writes, target, update, upper-goes-on, writes, prepared}
 use Rattle.tree.proofs.Reached.Reached.{join as r-join, move as r-move, part as r-part, rise as r-rise}
 use Rattle.tree.proofs.Frames.{Part, children-part}
 use Rattle.tree.proofs.Lengths.{length-join, length-joins, length-acts, length-rest, length-batch, below-le, crowded, below-mono}
-use Rattle.tree.proofs.Invariants.{level-up, under-in, splits, root-halved, tree}
+use Rattle.tree.proofs.Invariants.{level-up, splits, root-halved, tree}
 
 abbrev pub Rest : List Node → ℕ → Type 0
 Rest a p = (b : ℕ) → b < length a → b ≢ p → Sized 256 8 b (node a b)
@@ -154,7 +155,7 @@ module _ (a : List Node) (t : Tree a) (p j c l : ℕ) (u : Child-at a p j c) (pl
   pub new-n : node (split-child a p j c) (length a) ≡ Z
   new-n = sp.at-new a t p j c Q l Y Z S pl
 
-  -- a slim node has room for one more child
+  -- a node of at most 7 children has room for one more
   pub wider : (b : ℕ) (x : Node) → Sized 256 7 b x → Sized 256 8 b x
   wider b x s = record { messages-le = s .messages-le; records-le = s .records-le; children-le = omega (arith, s .children-le); leaf = s .leaf; bare = s .bare; inner = s .inner }
 
@@ -455,19 +456,19 @@ starts K a h n k m lt r s =
     let o = raised-ok K h n a r s in
     let b = raised a in
     let t = tree K b h n (o .0) in
-    let slim = o .1 .0 0 (t .has-root) in
+    let root = o .1 .0 0 (t .has-root) in
     let ln = length-join K k m (node b 0 .messages) in
     record {
       moves = n;
       reached = r-join k m lt (o .0);
       others = λ d i e. rw (ct.join-at-else K b t k m lt d (omega arith)) (o .1 .0 d (omega (arith, ct.join-len K b t k m lt)));
       here = rw (ct.join-at-root K b t k m lt) (record {
-        messages-le = omega (arith, slim .messages-le);
-        records-le = slim .records-le;
+        messages-le = omega (arith, root .messages-le);
+        records-le = root .records-le;
         children-le = o .1 .1;
-        leaf = slim .leaf;
+        leaf = root .leaf;
         bare = λ g. absurd (omega (arith, t .root-inner));
-        inner = slim .inner;
+        inner = root .inner;
       });
       inside = omega (arith, ct.join-len K b t k m lt, t .has-root);
       level-is = ap (λ (x : Node). x .frame .level) (ct.join-at-root K b t k m lt);

@@ -1,6 +1,5 @@
 -- Nodes as the wear law sees them, and the steps that it counts.
 use mathlib.Core.Path.{_≡_}
-use mathlib.Core.Logic.{_≢_}
 use mathlib.Core.List.{List, [], _∷_, _++_}
 use Prim.Native.Nat.{ℕ, zero, suc, _+_, _-_, _*_, _^_, _≤_, _<_, max}
 use lib.ListN.{length, getD, set}
@@ -121,15 +120,8 @@ pub data Step (s : State) : State → Type 0 where
       → 120 ≤ m₁ → 120 ≤ m₂ → Step s (after-split s p c m₁ 0 m₂ 0)
   move : (p c m : ℕ) → Pair s p c → 16 ≤ at s p .load → m ≤ at s c .load + 16 → Step s (after-move s p c m)
 
-pub data Run : State → State → Type 0 where
-  done : {s : State} → Run s s
-  more : {s t u : State} → Run s t → Step t u → Run s u
-
 -- What is shown of every state that a run from the start reaches.
 pub record Worn (s : State) : Type 0 where
   pub pace : 16 * s .writes ≤ s .updates * (height s + 1)
   pub tall : 2 ≤ height s → 113 * (2 * 4 ^ (height s - 1) - 1) ≤ s .updates
   pub room : 226 * (length (s .blocks) - 2) ≤ 3 * s .updates
-
-abbrev pub Wear : Type 0
-Wear = (s : State) → Run start s → Worn s
