@@ -1,11 +1,13 @@
 -- The laws of every tree that updates grow from a fresh one. Each is the contract of a function in src/lib.rt.
 use mathlib.Core.Path.{_≡_}
 use mathlib.Core.Logic.{_≢_}
-use mathlib.Core.Bool.{true, false}
+use mathlib.Core.Bool.{true, false, cond}
 use mathlib.Core.List.{List, [], _∷_, _++_}
 use Prim.Native.Nat.{ℕ, zero, suc, _+_, _-_, _*_, _%_, _^_, _≤_, _<_, min}
+use lib.Dec.{eqb}
 use lib.IntN.{ℤ, pos, natAbs, _+ℤ_}
 use lib.ListN.{length, getD}
+use Rattle.std.specs.declared.option.Option.{Option}
 use Rattle.std.specs.declared.option.Option.the-variants.{Some, None}
 use Rattle.messages.specs.Algebra.{Algebra}
 use Rattle.messages.specs.Lists.{entry, find, pending, batch-size, most-moving, Within}
@@ -17,9 +19,9 @@ use Rattle.messages.specs.declared.message.Message.{Message}
 use Rattle.messages.specs.declared.message.Message.the-variants.{Put, Remove, Add}
 use Rattle.tree.specs.Limits.{most-entries}
 use Rattle.tree.specs.Lookup.{lookup, said}
-use Rattle.tree.specs.Nodes.{Node, node, height, next-free}
+use Rattle.tree.specs.Nodes.{Frame, Node, node, height, next-free}
 use Rattle.tree.specs.Operations.{joined, split-key, lower-half, upper-half}
-use Rattle.tree.specs.Query.{query, page, leaf-frame, entries}
+use Rattle.tree.specs.Query.{query, Page, page, leaf-frame, entries}
 use Rattle.tree.specs.Shape.{Good-tree}
 use Rattle.tree.specs.Update.{pending-for, busiest-place, busiest-child, is-full, prepared, target, after-step, raised, update, writes, grown, tree-writes}
 
@@ -48,22 +50,25 @@ abbrev pub Update-law : Type 0
 Update-law = (K : Algebra) (h : List (Entry Message)) → Keys h → (k : ℕ) (m : Message) → k < 2 ^ 32 → Update-effect K (grown K h) k m
 
 -- ---- page
--- the page from first to last: exactly the keys present from first up to last or the end of the leaf's span, rising, with what the messages say
-pub record Page-answer (K : Algebra) (h : List (Entry Message)) (first last : ℕ) : Type 0 where
+-- the page r from first to last, at a leaf with the frame f: exactly the present keys from first up to last or the end of the leaf's span, rising,
+-- with what the messages say
+pub record Page-answer (K : Algebra) (h : List (Entry Message)) (first last : ℕ) (f : Frame) (r : Page) : Type 0 where
   -- the leaf's span holds the first key
-  pub span-from : leaf-frame (grown K h) first .low ≤ first
-  pub span-upto : first < leaf-frame (grown K h) first .high
-  pub rising : Within first (min (suc last) (leaf-frame (grown K h) first .high)) (page K (grown K h) first last .entries)
-  pub exact : (k : ℕ) → first ≤ k → k ≤ last → k < leaf-frame (grown K h) first .high → find k (page K (grown K h) first last .entries) ≡ said K k h
+  pub span-from : f .low ≤ first
+  pub span-upto : first < f .high
+  pub rising : Within first (min (suc last) (f .high)) (r .entries)
+  pub exact : (k : ℕ) → first ≤ k → k ≤ last → k < f .high → find k (r .entries) ≡ said K k h
   -- the first key past the span, if that is at most last
-  pub next-none : last < leaf-frame (grown K h) first .high → page K (grown K h) first last .next ≡ None
-  pub next-some : leaf-frame (grown K h) first .high ≤ last → page K (grown K h) first last .next ≡ Some (leaf-frame (grown K h) first .high)
-  pub reads : page K (grown K h) first last .reads ≡ height (grown K h)
-  -- the leaf's records and the messages of each level above it: at most 2304 in a tree of height 8
-  pub few : length (page K (grown K h) first last .entries) ≤ most-entries * (height (grown K h) + 1)
+  pub next-none : last < f .high → r .next ≡ None
+  pub next-some : f .high ≤ last → r .next ≡ Some (f .high)
+  pub reads : r .reads ≡ height (grown K h)
+  -- the leaf's records, and the messages of each level above it
+  pub few : length (r .entries) ≤ most-entries * (height (grown K h) + 1)
+  pub table : height (grown K h) ≤ 8 → length (r .entries) ≤ 2304
 
 abbrev pub Page-law : Type 0
-Page-law = (K : Algebra) (h : List (Entry Message)) → Keys h → (first last : ℕ) → first ≤ last → last < 2 ^ 32 → Page-answer K h first last
+Page-law = (K : Algebra) (h : List (Entry Message)) → Keys h → (first last : ℕ) → first ≤ last → last < 2 ^ 32
+    → let a = grown K h in Page-answer K h first last (leaf-frame a first) (page K a first last)
 
 -- ---- total
 -- page by page every present key of the range is met once, in rising order
@@ -93,10 +98,30 @@ abbrev pub Amounts : ℕ → List (Entry Message) → Type 0
 Amounts m [] = Unit {0}
 Amounts m (e ∷ h) = Amount m (e .value) × Amounts m h
 
--- with amounts of at most 10^9 and at most 2^32 updates, the words of a range, added modulo 2^64 and read as signed, give the true sum
+-- what messages of amounts, the newest first, say of a key in true numbers, which never wrap
+abbrev pub numbered : Message → Option ℤ → Option ℤ
+numbered (Put v) o = Some (signed v)
+numbered Remove o = None
+numbered (Add d) None = Some (signed d)
+numbered (Add d) (Some z) = Some (z +ℤ signed d)
+
+abbrev pub number-said : ℕ → List (Entry Message) → Option ℤ
+number-said k [] = None
+number-said k (e ∷ h) = cond (eqb (e .key) k) (numbered (e .value) (number-said k h)) (number-said k h)
+
+abbrev pub meaning : Option ℕ → Option ℤ
+meaning None = None
+meaning (Some w) = Some (signed w)
+
+-- with amounts of at most 10^9 and at most 2^32 updates: each quantity, read as signed, is the true number; and the words of a range, added modulo
+-- 2^64 and read as signed, give the true sum
+pub record Exact (h : List (Entry Message)) : Type 0 where
+  pub quantities : (k : ℕ) → meaning (said quantity-algebra k h) ≡ number-said k h
+  pub sums : (first last : ℕ) → first ≤ last → last < 2 ^ 32
+      → let xs = entries quantity-algebra (grown quantity-algebra h) first last in signed (sum-of-words xs % 2 ^ 64) ≡ sum-of-numbers xs
+
 abbrev pub Sum-law : Type 0
-Sum-law = (h : List (Entry Message)) → Keys h → Amounts (10 ^ 9) h → length h ≤ 2 ^ 32 → (first last : ℕ) → first ≤ last → last < 2 ^ 32
-    → let xs = entries quantity-algebra (grown quantity-algebra h) first last in signed (sum-of-words xs % 2 ^ 64) ≡ sum-of-numbers xs
+Sum-law = (h : List (Entry Message)) → Keys h → Amounts (10 ^ 9) h → length h ≤ 2 ^ 32 → Exact h
 
 -- ---- shape
 abbrev pub Shape-law : Type 0

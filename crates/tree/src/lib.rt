@@ -23,7 +23,7 @@ pub fn total_law_holds()
     ensures { λ _. ⌜ Total-law ⌝ }
 {}
 
-// With amounts of at most 10^9 and at most 2^32 updates, the signed sum of a range is exact.
+// With amounts of at most 10^9 and at most 2^32 updates, each quantity and the sum of a range are the true numbers.
 pub fn sum_law_holds()
     ensures { λ _. ⌜ Sum-law ⌝ }
 {}
