@@ -13,14 +13,14 @@ use Rattle.tree.specs.Laws.{Map-law, Update-law, Page-law, Total-law, Sum-law}
 use Rattle.tree.specs.Nodes.{height}
 use Rattle.tree.specs.Update.{grown}
 use Rattle.tree.proofs.Grown.{held, grown-tree, grown-says}
-use Rattle.tree.proofs.Query.{queries, length-path, length-page}
+use Rattle.tree.proofs.Query.{queries, query-reads, length-path, length-page}
 use Rattle.tree.proofs.Sum.{exact-sum, exact-quantity}
 use Rattle.tree.proofs.Total.{one-page, all-pages, within-min, next-none, next-some}
 
 pub map-law : Map-law
 map-law K h ks k lt =
     let q = queries K (grown K h) (grown-tree K h ks) k lt in
-    record { stands = grown-says K h ks k lt; value = q .0 ∙ grown-says K h ks k lt; reads = q .1 }
+    record { stands = grown-says K h ks k lt; value = q .0 ∙ grown-says K h ks k lt; reads = query-reads K (grown K h) k; reads-at-most = q .1 }
 
 pub update-law : Update-law
 update-law K h ks k m lt =

@@ -1,7 +1,7 @@
 -- The sum of a range of quantities is exact: amounts are too small for it to pass the ends of a word.
 use mathlib.Core.Path.{_≡_, refl, ap, sym, subst, _∙_}
 use mathlib.Core.Logic.{_≢_, ⊎-elim}
-use mathlib.Core.Bool.{Bool, true, false, cond}
+use mathlib.Core.Bool.{cond}
 use mathlib.Core.List.{List, [], _∷_}
 use Prim.Native.Nat.{ℕ, suc, _+_, _-_, _*_, _%_, _^_, _≤_, _<_}
 use native.Mathlib.Omega.{arith}
@@ -22,6 +22,7 @@ use Rattle.messages.specs.declared.message.Message.{Message}
 use Rattle.messages.specs.declared.message.Message.the-variants.{Put, Remove, Add}
 use Rattle.tree.specs.Laws.{Amount, Amounts, meaning, numbered, number-said, sum-of-words, sum-of-numbers}
 use Rattle.tree.specs.Lookup.{said}
+use Rattle.tree.proofs.Lengths.{cases-bool}
 
 -- a word read as signed is its up less its down
 abbrev up : ℕ → ℕ
@@ -194,7 +195,3 @@ exact-quantity m k (x ∷ h) b small =
     cases-bool (eqb (x .key) k) (λ t. meaning (cond t (effect quantity-algebra (x .value) (said quantity-algebra k h)) (said quantity-algebra k h))
     ≡ cond t (numbered (x .value) (number-said k h)) (number-said k h))
     (e ∙ ap (numbered (x .value)) i) i
-  where
-    cases-bool : (t : Bool) (P : Bool → Type 0) → P true → P false → P t
-    cases-bool true P yes′ no′ = yes′
-    cases-bool false P yes′ no′ = no′

@@ -23,7 +23,7 @@ use Rattle.tree.proofs.Structure.{All-sized, Sized, Tree}
 use Rattle.tree.specs.Update.{after-step, busiest-child, busiest-place, full-at, is-full, pending-for, raised, run-steps, step-writes, target, update, upper-goes-on, writes, prepared}
 use Rattle.tree.proofs.Reached.Reached.{join as r-join, move as r-move, part as r-part, rise as r-rise}
 use Rattle.tree.proofs.Frames.{Part, children-part}
-use Rattle.tree.proofs.Lengths.{length-join, length-joins, length-acts, length-rest, length-batch, below-le, crowded, below-mono}
+use Rattle.tree.proofs.Lengths.{length-join, length-joins, length-acts, length-rest, length-batch, below-le, length-raised, crowded, below-mono}
 use Rattle.tree.proofs.Invariants.{level-up, splits, root-halved, tree}
 
 abbrev pub Rest : List Node → ℕ → Type 0
@@ -442,13 +442,6 @@ raised-ok K h n a r s = go (eqb (length (node a 0 .frame .children)) 8) refl
     )
     go false e = (r, (s, omega (arith, eqb-false _ _ e, s 0 (t .has-root) .children-le)))
 
-pub raised-length : (K : Algebra) (h : List (Entry Message)) (n : ℕ) (a : List Node) → Reached K a h n → length (raised a) ≡ length a + cond (eqb (length (node a 0 .frame .children)) 8) 2 0
-raised-length K h n a r = go (eqb (length (node a 0 .frame .children)) 8)
-  where
-    go : (b : Bool) → length (cond b (cut-root a) a) ≡ length a + cond b 2 0
-    go true = simp (length-append, length-set)
-    go false = omega arith
-
 -- the root with the message, as the current node
 pub starts : (K : Algebra) (a : List Node) (h : List (Entry Message)) (n k : ℕ) (m : Message) → k < 2 ^ 32 → Reached K a h n → All-sized a
     → Going K (entry k m ∷ h) (node (raised a) 0 .frame .level) (joined K k m (raised a)) 0
@@ -486,5 +479,5 @@ updated K a h n k m lt r s =
       moves = d .moves;
       reached = d .reached;
       sized = d .sized;
-      tally = omega (arith, d .tally, raised-length K h n a r, ct.join-len K b t k m lt, own-writes K (node b 0 .frame .level) (joined K k m b) 0 0);
+      tally = omega (arith, d .tally, length-raised a, ct.join-len K b t k m lt, own-writes K (node b 0 .frame .level) (joined K k m b) 0 0);
     }

@@ -21,9 +21,9 @@ use Rattle.tree.specs.Limits.{most-entries}
 use Rattle.tree.specs.Lookup.{lookup, said}
 use Rattle.tree.specs.Nodes.{Frame, Node, node, height, next-free}
 use Rattle.tree.specs.Operations.{joined, split-key, lower-half, upper-half}
-use Rattle.tree.specs.Query.{query, Page, page, leaf-frame, entries}
+use Rattle.tree.specs.Query.{query, messages-met, unsettled, Page, page, leaf-frame, entries}
 use Rattle.tree.specs.Shape.{Good-tree}
-use Rattle.tree.specs.Update.{pending-for, busiest-place, busiest-child, is-full, prepared, target, after-step, raised, update, writes, grown, tree-writes}
+use Rattle.tree.specs.Update.{pending-for, busiest-place, busiest-child, is-full, prepared, target, after-step, raised, update, writes, grown, tree-writes, batches-moved}
 
 -- all keys are below 2^32
 abbrev pub Keys : List (Entry Message) → Type 0
@@ -31,11 +31,13 @@ Keys [] = Unit {0}
 Keys (e ∷ h) = (e .key < 2 ^ 32) × Keys h
 
 -- ---- map
--- what stands for the key, and what a query finds, is what the messages say of it; the query reads at most as many blocks as the tree is high
+-- what stands for the key, and what a query finds, is what the messages say of it; the query reads one block for each node on the way that
+-- settles nothing, so at most as many as the tree is high
 pub record Query-answer (K : Algebra) (h : List (Entry Message)) (k : ℕ) : Type 0 where
   pub stands : lookup K (grown K h) k ≡ said K k h
   pub value : query K (grown K h) k .value ≡ said K k h
-  pub reads : query K (grown K h) k .reads ≤ height (grown K h)
+  pub reads : query K (grown K h) k .reads ≡ unsettled (messages-met (height (grown K h)) (grown K h) 0 k)
+  pub reads-at-most : query K (grown K h) k .reads ≤ height (grown K h)
 
 abbrev pub Map-law : Type 0
 Map-law = (K : Algebra) (h : List (Entry Message)) → Keys h → (k : ℕ) → k < 2 ^ 32 → Query-answer K h k
@@ -181,6 +183,8 @@ pub record Split-law : Type 0 where
 
 -- ---- wear
 pub record Wear (K : Algebra) (h : List (Entry Message)) : Type 0 where
+  -- each write is of a node that sent or took a batch, or of a new block: one for each batch moved, and one for each block beyond the first two
+  pub counted : tree-writes K h + 2 ≡ batches-moved K h + next-free (grown K h)
   -- 16 updates cost at most as many writes as the tree has levels, the leaves' included
   pub pace : 16 * tree-writes K h ≤ length h * (height (grown K h) + 1)
   -- and many updates are needed for a high tree
