@@ -40,6 +40,7 @@ pub record Halved (a : List Node) (q : ℕ) (x y z : Node) : Type 0 where
   pub says-z : (K : Algebra) (k : ℕ) (o : Option ℕ) → q ≤ k → k < x .frame .high
       → (find k (z .records) ≡ find k (x .records)) × (acts K k (z .messages) o ≡ acts K k (x .messages) o) × (child (z .frame) k ≡ child (x .frame) k)
 
+-- block c is the child at place j of block p, and halved at q into y and z
 pub record Can-split (a : List Node) (p j c q : ℕ) (y z : Node) : Type 0 where
   pub p-in : p < length a
   pub j-in : j < length (node a p .frame .children)
@@ -47,9 +48,11 @@ pub record Can-split (a : List Node) (p j c q : ℕ) (y z : Node) : Type 0 where
   pub inner : 0 < node a p .frame .level
   pub halves : Halved a q (node a c) y z
 
+-- a node that is due to be split
 abbrev pub Full : Node → Type 0
 Full x = ((x .frame .level ≡ 0) × (length (x .frame .children) ≡ 0) × (240 < length (x .records))) ⊎ ((0 < x .frame .level) × (length (x .frame .children) ≡ 8))
 
+-- block c is the child at place j of block p
 pub record Child-at (a : List Node) (p j c : ℕ) : Type 0 where
   pub p-in : p < length a
   pub j-in : j < length (node a p .frame .children)
@@ -64,6 +67,7 @@ pub data Reached (K : Algebra) : List Node → List (Entry Message) → ℕ → 
   part : {a : List Node} {h : List (Entry Message)} {n : ℕ} (p j c : ℕ) → Child-at a p j c → Full (node a c) → Reached K a h n → Reached K (split-child a p j c) h n
   rise : {a : List Node} {h : List (Entry Message)} {n : ℕ} → length (node a 0 .frame .children) ≡ 8 → Reached K a h n → Reached K (cut-root a) h n
 
+-- a node as the wear law sees it
 abbrev pub load-of : ℕ → Node → ℕ
 load-of zero x = length (x .records)
 load-of (suc l) x = length (x .messages)

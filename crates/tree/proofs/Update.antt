@@ -26,6 +26,7 @@ use Rattle.tree.proofs.Frames.{Part, children-part}
 use Rattle.tree.proofs.Lengths.{length-join, length-joins, length-acts, length-rest, length-batch, below-le, length-raised, crowded, below-mono}
 use Rattle.tree.proofs.Invariants.{level-up, splits, root-halved, tree}
 
+-- all nodes but the current one have their sizes
 abbrev pub Rest : List Node → ℕ → Type 0
 Rest a p = (b : ℕ) → b < length a → b ≢ p → Sized 256 8 b (node a b)
 

@@ -25,9 +25,11 @@ same zero (suc n) = 0
 same (suc m) zero = 0
 same (suc m) (suc n) = same m n
 
+-- how far the messages of a node have to fall
 abbrev pub weight : Shape → ℕ
 weight n = n .level * n .load
 
+-- the load of a node, a leaf's counted as at least 120
 abbrev pub bulk-of : ℕ → ℕ → ℕ
 bulk-of zero m = max 120 m
 bulk-of (suc l) m = m
@@ -35,6 +37,7 @@ bulk-of (suc l) m = m
 abbrev pub bulk : Shape → ℕ
 bulk n = bulk-of (n .level) (n .load)
 
+-- 1 for an inner node
 abbrev pub inner-of : ℕ → ℕ
 inner-of zero = 0
 inner-of (suc l) = 1
@@ -45,6 +48,7 @@ inner n = inner-of (n .level)
 abbrev pub children-of : Shape → ℕ
 children-of n = n .children
 
+-- the children, and 1, of a node of level k
 abbrev pub children-at : ℕ → Shape → ℕ
 children-at k n = same (n .level) k * n .children
 
@@ -67,6 +71,7 @@ height s = at s 0 .level
 abbrev pub start : State
 start = record { blocks = shape 1 0 1 ∷ shape 0 0 0 ∷ []; updates = 0; moves = 0; writes = 0 }
 
+-- what each step leaves, with the new loads as it gives them
 abbrev pub after-cut : State → ℕ → ℕ → State
 after-cut s m₁ m₂ =
     record {
