@@ -14,7 +14,7 @@ use Rattle.messages.specs.declared.message.Message.{Message}
 use Rattle.tree.specs.Laws.{Cost-law, Full-batches, Batch-law}
 use Rattle.tree.specs.Nodes.{Node, node, height}
 use Rattle.tree.specs.Operations.{cut-root, joined}
-use Rattle.tree.proofs.Structure.{Tree}
+use Rattle.tree.specs.Shape.{Tree}
 use Rattle.tree.specs.Update.{prepared, target, after-step, run-steps, raised, step-writes, grown}
 use Rattle.tree.proofs.Grown.{held, grown-tree}
 use Rattle.tree.proofs.Lengths.{length-step-le}

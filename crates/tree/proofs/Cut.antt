@@ -18,8 +18,7 @@ use Rattle.tree.proofs.Reached.{Halved}
 use Rattle.tree.specs.Lookup.{acts, look, lookup}
 use Rattle.tree.specs.Nodes.{Frame, Node, child, no-node, node}
 use Rattle.tree.specs.Operations.{cut, joined, new-root, with-message}
-use Rattle.tree.proofs.Structure.{Child, Sound, Tree}
-use Rattle.tree.specs.Shape.{In}
+use Rattle.tree.specs.Shape.{In, Child, Sound, Tree}
 use Rattle.tree.proofs.Lists.{within-join, acts-join}
 use Rattle.tree.proofs.Frames.{sound-same, place-same, Place}
 use Rattle.tree.proofs.Move.{inner-sound, took}

@@ -8,8 +8,7 @@ use lib.ListN.{length, getD}
 use lib.Dec.{ltb}
 use Rattle.std.proofs.shelf.Tests.{cases-lt, cond-both, ltb-false, ltb-true}
 use Rattle.tree.specs.Nodes.{Frame, Node, node, pick}
-use Rattle.tree.proofs.Structure.{Child, Children, Sound}
-use Rattle.tree.specs.Shape.{In}
+use Rattle.tree.specs.Shape.{In, Child, Children, Sound}
 
 -- the child that takes a key of the span is a node below, and the key is in its span
 pub record Took (a : List Node) (l d k : ℕ) : Type 0 where

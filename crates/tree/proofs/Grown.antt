@@ -14,7 +14,7 @@ use Rattle.tree.specs.Laws.{Keys, Wear-law}
 use Rattle.tree.specs.Lookup.{lookup, said}
 use Rattle.tree.specs.Nodes.{Node, height, node}
 use Rattle.tree.specs.Operations.{fresh, joined}
-use Rattle.tree.proofs.Structure.{Tree, All-sized}
+use Rattle.tree.specs.Shape.{Tree, All-sized}
 use Rattle.tree.specs.Limits.{most-entries}
 use Rattle.tree.specs.Update.{after-step, batches-moved, busiest-child, grown, is-full, raised, run-steps, step-writes, steps-made, target, tree-writes}
 use Rattle.tree.proofs.Wear.{Shape, shape}

@@ -13,7 +13,7 @@ use Rattle.messages.specs.declared.entry.Entry.{Entry}
 use Rattle.tree.proofs.Reached.{Halved}
 use Rattle.tree.specs.Nodes.{Node, pick}
 use Rattle.tree.specs.Operations.{key-at, lower-inner, lower-leaf, upper-inner, upper-leaf}
-use Rattle.tree.proofs.Structure.{Children, Sound}
+use Rattle.tree.specs.Shape.{Children, Sound}
 use Rattle.tree.proofs.Lists.{within-below, within-above, acts-low, acts-high, find-under, find-append, find-append′}
 use Rattle.tree.proofs.Frames.{children-some}
 use Rattle.tree.proofs.Move.{inner-sound, leaf-sound}

@@ -16,8 +16,7 @@ use Rattle.tree.proofs.Reached.{Can-split, Child-at, Full, Halved, Reached, wo
 use Rattle.tree.specs.Lookup.{lookup, said}
 use Rattle.tree.specs.Nodes.{Node, node}
 use Rattle.tree.specs.Operations.{fresh, half-length, lower-half, lower-inner, split-key, upper-half, upper-inner}
-use Rattle.tree.proofs.Structure.{Sound, Tree}
-use Rattle.tree.specs.Shape.{In}
+use Rattle.tree.specs.Shape.{In, Sound, Tree}
 use Rattle.tree.proofs.Reached.Reached.{start, join, move, part, rise}
 use Rattle.tree.proofs.Move.{move-lookup, move-tree, inner-sound}
 use Rattle.tree.proofs.Split.{split-lookup, split-tree}

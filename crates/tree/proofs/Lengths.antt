@@ -20,7 +20,7 @@ use Rattle.tree.proofs.Lists.{size-full}
 use Rattle.tree.specs.Limits.{most-children}
 use Rattle.tree.specs.Nodes.{Node, node}
 use Rattle.tree.specs.Operations.{cut-root, split-child}
-use Rattle.tree.proofs.Structure.{Children}
+use Rattle.tree.specs.Shape.{Children}
 use Rattle.tree.specs.Update.{after-step, busiest-child, busiest-place, is-full, largest, pending-counts, pending-for, raised}
 
 pub length-join : (K : Algebra) (k : ℕ) (m : Message) (xs : List (Entry Message)) → (length xs ≤ length (join-in K k m xs)) × (length (join-in K k m xs) ≤ length xs + 1)

@@ -1,4 +1,3 @@
-pub mod Structure
 pub mod Wear
 pub mod Sums
 pub mod Keeps

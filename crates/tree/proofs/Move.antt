@@ -14,8 +14,7 @@ use Rattle.tree.proofs.Reached.{Can-move}
 use Rattle.tree.specs.Lookup.{acts, look, lookup}
 use Rattle.tree.specs.Nodes.{Frame, Node, child, no-node, node}
 use Rattle.tree.specs.Operations.{absorb, absorb-messages, absorb-records, moved, moving-batch, without-batch}
-use Rattle.tree.proofs.Structure.{Children, Sound, Tree}
-use Rattle.tree.specs.Shape.{In}
+use Rattle.tree.specs.Shape.{In, Children, Sound, Tree}
 use Rattle.tree.proofs.Lists.{acts-under, acts-over, within-rest, within-batch, acts-rest, within-joins, acts-joins, within-acts-in, find-acts-in}
 use Rattle.tree.proofs.Frames.{Took, children-took, Part, children-part, children-same, place-same}
 

@@ -17,8 +17,7 @@ use Rattle.messages.specs.declared.message.Message.{Message}
 use Rattle.tree.specs.Lookup.{acts, look, lookup}
 use Rattle.tree.specs.Nodes.{Node, child, node, height}
 use Rattle.tree.specs.Query.{Answer, acted, ask, joined-before, leaf-of, leaf-frame, leaf-page, messages-met, path, page, query, settle, slice, unsettled, whole-page}
-use Rattle.tree.proofs.Structure.{Tree, All-sized}
-use Rattle.tree.specs.Shape.{In}
+use Rattle.tree.specs.Shape.{In, Tree, All-sized}
 use Rattle.messages.specs.declared.message.Message.the-variants.{Put, Remove, Add}
 use Rattle.tree.proofs.Lists.{acts-under, fold-law, within-above, within-below, acts-high, acts-low, within-acts-in, find-acts-in}
 use Rattle.tree.proofs.Move.{took, inner-sound, leaf-sound}

@@ -12,7 +12,7 @@ use Rattle.messages.specs.declared.message.Message.{Message}
 use Rattle.tree.specs.Lookup.{acts}
 use Rattle.tree.specs.Nodes.{Node, child, node}
 use Rattle.tree.specs.Operations.{cut-root, fresh, joined, moved, split-child}
-use Rattle.tree.proofs.Structure.{Sound}
+use Rattle.tree.specs.Shape.{Sound}
 use Rattle.tree.proofs.Wear.{Shape, shape, State}
 
 -- Block c is the child at place j of block p, with at least 16 messages pending.

@@ -14,7 +14,7 @@ use Rattle.tree.proofs.Reached.{Can-move, Child-at, Full, load-of, shape-of, w
 use Rattle.tree.proofs.Wear.{Pair, Shape, State, after-cut, after-join, after-move, after-split, at, height, shape}
 use Rattle.tree.specs.Nodes.{Node, node}
 use Rattle.tree.specs.Operations.{absorb, absorb-messages, absorb-records, cut-root, half-length, joined, lower-half, lower-inner, moved, moving-batch, new-root, split, split-child, split-key, upper-half, upper-inner, with-message, with-new-child, without-batch}
-use Rattle.tree.proofs.Structure.{Tree}
+use Rattle.tree.specs.Shape.{Tree}
 use Rattle.tree.proofs.Wear.Step.{cut, join, split-inner, split-leaf, move}
 use Rattle.tree.proofs.Keeps.{Inv, inv-step}
 use Rattle.tree.proofs.Frames.{Part, children-part}

@@ -7,8 +7,7 @@ use lib.ListN.{length, getD}
 use Rattle.messages.specs.Lists.{Within}
 use Rattle.tree.specs.Laws.{Shape-law}
 use Rattle.tree.specs.Nodes.{Frame, Node, node, height}
-use Rattle.tree.proofs.Structure.{Child, Children, Tree, All-sized}
-use Rattle.tree.specs.Shape.{Rising, Good-child, Good-node}
+use Rattle.tree.specs.Shape.{Rising, Good-child, Good-node, Child, Children, Tree, All-sized}
 use Rattle.tree.specs.Update.{grown}
 use Rattle.tree.proofs.Wear.{Shape}
 use Rattle.tree.proofs.Frames.{children-some}
@@ -19,13 +18,13 @@ use Rattle.tree.proofs.Move.{inner-sound, leaf-sound}
 use Rattle.tree.proofs.Plain.{Plain, all-plain}
 use Rattle.tree.proofs.Real.{at-shape}
 
-children-rising : (a : List Node) (l low high : ℕ) (cs ps : List ℕ) → Children a l low high cs ps → Rising low high ps
+pub children-rising : (a : List Node) (l low high : ℕ) (cs ps : List ℕ) → Children a l low high cs ps → Rising low high ps
 children-rising a l low high [] ps h = absurd h
 children-rising a l low high (c ∷ []) [] h = tt
 children-rising a l low high (c ∷ d ∷ cs) [] h = absurd h
 children-rising a l low high (c ∷ cs) (r ∷ ps) h = (h .0 .nonempty, children-some a l r high cs ps (h .1), children-rising a l r high cs ps (h .1))
 
-child-at : (a : List Node) (l low high : ℕ) (cs ps : List ℕ) (j : ℕ) → Children a l low high cs ps → j < length cs → Child a l (getD cs j 0) (getD (low ∷ ps) j 0) (getD ps j high)
+pub child-at : (a : List Node) (l low high : ℕ) (cs ps : List ℕ) (j : ℕ) → Children a l low high cs ps → j < length cs → Child a l (getD cs j 0) (getD (low ∷ ps) j 0) (getD ps j high)
 child-at a l low high [] ps j h g = absurd h
 child-at a l low high (c ∷ []) [] zero h g = h
 child-at a l low high (c ∷ []) [] (suc j) h g = absurd (omega arith)
@@ -33,13 +32,13 @@ child-at a l low high (c ∷ d ∷ cs) [] j h g = absurd h
 child-at a l low high (c ∷ cs) (r ∷ ps) zero h g = h .0
 child-at a l low high (c ∷ cs) (r ∷ ps) (suc j) h g = child-at a l r high cs ps j (h .1) (omega arith)
 
-good-child : (a : List Node) (l : ℕ) (f : Frame) (j : ℕ) → f .level ≡ suc l → Children a l (f .low) (f .high) (f .children) (f .pivots) → j < length (f .children) → Good-child a f j
+pub good-child : (a : List Node) (l : ℕ) (f : Frame) (j : ℕ) → f .level ≡ suc l → Children a l (f .low) (f .high) (f .children) (f .pivots) → j < length (f .children) → Good-child a f j
 good-child a l f j e h g =
     let c = child-at a l (f .low) (f .high) (f .children) (f .pivots) j h g in
     record { not-root = c .not-root; taken = c .inside; one-lower = omega (arith, c .level-is); from = c .from; upto = c .upto }
 
 module _ (a : List Node) (t : Tree a) (z : All-sized a) (root-children : 1 ≤ length (node a 0 .frame .children)) (high-root : 2 ≤ height a → 2 ≤ length (node a 0 .frame .children)) where
-  good-leaf : (b : ℕ) → b < length a → Plain (node a b) → node a b .frame .level ≡ 0 → Good-node a b (node a b)
+  good-leaf : (b : ℕ) → b < length a → Plain (node a b) → node a b .frame .level ≡ 0 → Good-node a b
   good-leaf b h p e =
       let n = p .leaf e in
       let lower : b ≡ 0 → ⊥ = λ i. (let r : node a b .frame .level ≡ height a = ap (λ x. node a x .frame .level) i in omega (arith, t .root-inner)) in
@@ -60,7 +59,7 @@ module _ (a : List Node) (t : Tree a) (z : All-sized a) (root-children : 1 ≤ l
         records-rise = leaf-sound a _ (node a b) e (t .sound b h);
       }
 
-  good-inner : (b l : ℕ) → b < length a → Plain (node a b) → node a b .frame .level ≡ suc l → Good-node a b (node a b)
+  good-inner : (b l : ℕ) → b < length a → Plain (node a b) → node a b .frame .level ≡ suc l → Good-node a b
   good-inner b l h p e =
       let s = inner-sound a l _ (node a b) e (t .sound b h) in
       let f = node a b .frame in
@@ -81,7 +80,7 @@ module _ (a : List Node) (t : Tree a) (z : All-sized a) (root-children : 1 ≤ l
         records-rise = subst (Within (f .low) (f .high)) (sym (p .inner (omega arith))) tt;
       }
 
-  good : (b l : ℕ) → b < length a → Plain (node a b) → node a b .frame .level ≡ l → Good-node a b (node a b)
+  good : (b l : ℕ) → b < length a → Plain (node a b) → node a b .frame .level ≡ l → Good-node a b
   good b zero h p e = good-leaf b h p e
   good b (suc l) h p e = good-inner b l h p e
 

@@ -18,8 +18,7 @@ use Rattle.tree.proofs.Reached.{Can-split}
 use Rattle.tree.specs.Lookup.{acts, look, lookup}
 use Rattle.tree.specs.Nodes.{Node, child, no-node, node, pick}
 use Rattle.tree.specs.Operations.{insert, split, with-new-child}
-use Rattle.tree.proofs.Structure.{Child, Children, Sound, Tree}
-use Rattle.tree.specs.Shape.{In}
+use Rattle.tree.specs.Shape.{In, Child, Children, Sound, Tree}
 use Rattle.tree.proofs.Frames.{Took, Part, children-part, children-same, children-some, place-same, Place, child-same, part-wider, part-child, in-or-out, sound-same}
 use Rattle.tree.proofs.Move.{inner-sound, took}
 

@@ -15,7 +15,7 @@ use Rattle.messages.specs.declared.entry.Entry.{Entry}
 use Rattle.tree.specs.Lookup.{lookup}
 use Rattle.tree.specs.Nodes.{Node}
 use Rattle.tree.specs.Query.{entries-from, following, leaf-frame, page, slice, whole-page}
-use Rattle.tree.proofs.Structure.{Tree}
+use Rattle.tree.specs.Shape.{Tree}
 use Rattle.tree.proofs.Lists.{within-above, within-below, within-take, within-wider, find-under, find-append, find-append′}
 use Rattle.tree.proofs.Query.{pages, within-slice}
 

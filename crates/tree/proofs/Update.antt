@@ -19,7 +19,7 @@ use Rattle.messages.specs.declared.message.Message.{Message}
 use Rattle.tree.proofs.Reached.{Can-move, Can-split, Child-at, Full, Reached}
 use Rattle.tree.specs.Nodes.{Node, node}
 use Rattle.tree.specs.Operations.{absorb, cut-root, insert, joined, lower-half, moved, moving-batch, split-child, split-key, upper-half, with-new-child}
-use Rattle.tree.proofs.Structure.{All-sized, Sized, Tree}
+use Rattle.tree.specs.Shape.{All-sized, Sized, Tree}
 use Rattle.tree.specs.Update.{after-step, busiest-child, busiest-place, full-at, is-full, pending-for, raised, run-steps, step-writes, target, update, upper-goes-on, writes, prepared}
 use Rattle.tree.proofs.Reached.Reached.{join as r-join, move as r-move, part as r-part, rise as r-rise}
 use Rattle.tree.proofs.Frames.{Part, children-part}
