@@ -1,0 +1,5 @@
+// Numbers and other values as rows of bytes, and tables of such rows.
+pub mod bytes;
+pub mod numbers;
+pub mod row;
+pub mod table;
