@@ -2,3 +2,4 @@ pub mod Bytes
 pub mod Numbers
 pub mod Coding
 pub mod Tables
+pub mod Entries
