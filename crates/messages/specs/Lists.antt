@@ -24,11 +24,16 @@ abbrev pub below : {V : Type 0} → ℕ → List (Entry V) → ℕ
 below k [] = 0
 below k (x ∷ xs) = cond (ltb (x .key) k) (suc (below k xs)) 0
 
--- a message joins a node's messages
+-- what stands for a key, in a list whose keys rise
+abbrev pub find : {V : Type 0} → ℕ → List (Entry V) → Option V
+find k [] = None
+find k (x ∷ xs) = cond (ltb (x .key) k) (find k xs) (cond (eqb (x .key) k) (Some (x .value)) None)
+
+-- a message joins a node's messages: it folds into the one held on its key, or comes in before the first larger key
 abbrev pub join-in : Algebra → ℕ → Message → List (Entry Message) → List (Entry Message)
 join-in K k m [] = entry k m ∷ []
 join-in K k m (x ∷ xs) =
-    cond (ltb k (x .key)) (entry k m ∷ x ∷ xs) (cond (eqb (x .key) k) (entry k (fold K (x .value) m) ∷ xs) (x ∷ join-in K k m xs))
+    cond (ltb (x .key) k) (x ∷ join-in K k m xs) (cond (eqb (x .key) k) (entry k (fold K (x .value) m) ∷ xs) (entry k m ∷ x ∷ xs))
 
 -- messages join a node's messages, one after another
 abbrev pub joins : Algebra → List (Entry Message) → List (Entry Message) → List (Entry Message)
@@ -44,8 +49,8 @@ put-first k (Some v) xs = entry k v ∷ xs
 abbrev pub act-in : Algebra → ℕ → Message → List (Entry ℕ) → List (Entry ℕ)
 act-in K k m [] = put-first k (effect K m None) []
 act-in K k m (x ∷ xs) =
-    cond (ltb k (x .key)) (put-first k (effect K m None) (x ∷ xs))
-    (cond (eqb (x .key) k) (put-first k (effect K m (Some (x .value))) xs) (x ∷ act-in K k m xs))
+    cond (ltb (x .key) k) (x ∷ act-in K k m xs)
+    (cond (eqb (x .key) k) (put-first k (effect K m (Some (x .value))) xs) (put-first k (effect K m None) (x ∷ xs)))
 
 -- messages act on a leaf's records, one after another
 abbrev pub acts-in : Algebra → List (Entry ℕ) → List (Entry Message) → List (Entry ℕ)
