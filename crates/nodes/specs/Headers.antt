@@ -19,10 +19,10 @@ header-coding =
       children = p .1 .1 .1 .0;
       kind = p .1 .1 .1 .1 .0;
       unused = p .1 .1 .1 .1 .1 .0;
-      next-free = p .1 .1 .1 .1 .1 .1 .0;
+      «next_free» = p .1 .1 .1 .1 .1 .1 .0;
       gap = p .1 .1 .1 .1 .1 .1 .1 .0;
       updates = p .1 .1 .1 .1 .1 .1 .1 .1 .0;
-      tree-writes = p .1 .1 .1 .1 .1 .1 .1 .1 .1;
+      «tree_writes» = p .1 .1 .1 .1 .1 .1 .1 .1 .1;
     })
-    (λ h. (h .level, (h .mark, (h .count, (h .children, (h .kind, (h .unused, (h .next-free, (h .gap, (h .updates, h .tree-writes))))))))))
+    (λ h. (h .level, (h .mark, (h .count, (h .children, (h .kind, (h .unused, (h .«next_free», (h .gap, (h .updates, h .«tree_writes»))))))))))
     (λ h. refl) (λ p. refl) numbers

@@ -1,3 +1,4 @@
 pub mod Rules
 pub mod Marks
 pub mod Headers
+pub mod Keys

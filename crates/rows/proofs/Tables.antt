@@ -38,6 +38,12 @@ zero-filled n k rows bytes fill front used long empty =
 pub row-within : (size i n : ℕ) → i < n → size * i + size ≤ size * n
 row-within size i n h = rw mul-suc at (mul-le size (suc i) size n (omega arith) (omega arith))
 
+-- past the first i of n rows there is a row left
+pub row-left : (size i n : ℕ) (table rest : List ℕ) → rest ≡ drop (size * i) table → size * n ≤ length table → i < n → size ≤ length rest
+row-left size i n table rest e within less =
+    let long : length rest ≡ length table - size * i = ap length e ∙ length-drop (size * i) table in
+    omega (arith, row-within size i n less)
+
 -- the bytes of one row more
 pub size-more : (size i : ℕ) → size * (i + 1) ≡ size * i + size
 size-more size i = rw add-one (mul-suc size i)
