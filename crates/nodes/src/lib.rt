@@ -1,5 +1,10 @@
 // Nodes of the tree in memory and as blocks of bytes: the rules that a block keeps, reading and writing.
 pub mod entries;
 pub mod header;
+pub mod header_rules;
 pub mod mark;
+pub mod node;
+pub mod numbers;
+pub mod place;
 pub mod rule;
+pub mod writing;

@@ -1,0 +1,27 @@
+use mathlib.Core.Path.{_≡_}
+use mathlib.Core.Bool.{_&&_}
+use mathlib.Core.List.{List}
+use Prim.Native.Nat.{ℕ, suc, _+_, _<_}
+use native.Mathlib.Numerals.{add-one}
+use native.Mathlib.Omega.{arith}
+use lib.Dec.{leb, ltb}
+use lib.ListN.{length, drop, getD}
+use Rattle.std.proofs.shelf.Lists.{at-drop-more, at-drop-all}
+use Rattle.std.proofs.shelf.Ways.{tells}
+use Rattle.nodes.specs.Keys.{rising}
+use Rattle.nodes.proofs.numbers.are_rising.Needs as need
+
+one-more : (low high : ℕ) (ks : List ℕ) (i : ℕ) → i < length ks → rising low high (drop i ks) ≡ (leb low (getD ks i 0) && (ltb (getD ks i 0) high && rising (suc (getD ks i 0)) high (drop (i + 1) ks)))
+one-more low high ks i h = at-drop-more (rising low high) ks i 0 h
+
+pub returns-then-key-next : need.returns-then-key-next
+returns-then-key-next c = let h = one-more (c .loop-k .next) (c .args .high) (c .args .keys .now) (c .loop-k .k-index) (omega arith) in grind (arith, tells)
+
+pub returns-then-key-high : need.returns-then-key-high
+returns-then-key-high c = let h = one-more (c .loop-k .next) (c .args .high) (c .args .keys .now) (c .loop-k .k-index) (omega arith) in grind (arith, tells)
+
+pub loop-k-again : need.loop-k-again
+loop-k-again c = let h = one-more (c .loop-k .next) (c .args .high) (c .args .keys .now) (c .loop-k .k-index) (omega arith) in rw add-one (grind (arith, tells))
+
+pub returns : need.returns
+returns c = let e = at-drop-all (rising (c .loop-k .next) (c .args .high)) (c .args .keys .now) (c .loop-k .k-index) (omega arith) in cc (c .loop-k .inv)

@@ -1,0 +1,79 @@
+// The rules on a block's header.
+ghost use mathlib.Core.Path.{_≡_};
+ghost use Prim.Native.Nat.{_≤_, _<_};
+ghost use Rattle.std.specs.Options.{Cases};
+ghost use Rattle.nodes.specs.Checks.{header-rules, root-header-rules, header-zero, unused-zero};
+ghost use Rattle.nodes.specs.Rules.{first-broken};
+use crate::header::Header;
+use crate::place::Place;
+use crate::rule::Rule;
+
+impl Header {
+    // Whether bytes 8 to 31 are zero.
+    fn is_zero_from_8(&self) -> bool
+        ensures { λ r. ⌜ r ≡ header-zero (now (self .entry)) ⌝ }
+    {
+        self.next_free == 0 && self.gap == 0 && self.updates == 0 && self.tree_writes == 0
+    }
+
+    // Whether bytes 6, 7 and 12 to 15 are zero.
+    pub fn has_unused_zero(&self) -> bool
+        ensures { λ r. ⌜ r ≡ unused-zero (now (self .entry)) ⌝ }
+    {
+        self.unused == 0 && self.gap == 0
+    }
+
+    // The first rule that the header of a node below the root breaks.
+    pub fn broken_rule(&self, place: &Place) -> Option<Rule>
+        ensures value { λ r. ⌜ r ≡ first-broken (header-rules (now (place .entry)) (now (self .entry))) ⌝ }
+        ensures fits { λ r. ⌜ Cases r ((now (self .entry) .count ≤ 256) × ((0 < now (place .entry) .level → (1 ≤ now (self .entry) .children) × (now (self .entry) .children ≤ 8)))) (λ _. Unit {0}) ⌝ }
+    {
+        if self.level != place.level {
+            return Some(Rule::Level);
+        }
+        if self.mark != 0 {
+            return Some(Rule::Mark);
+        }
+        if self.count > 256 {
+            return Some(Rule::Count);
+        }
+        if place.level == 0 {
+            if self.children != 0 {
+                return Some(Rule::Children);
+            }
+        } else if self.children < 4 || self.children > 8 {
+            return Some(Rule::Children);
+        }
+        if self.kind != place.kind {
+            return Some(Rule::Kind);
+        }
+        if !self.is_zero_from_8() {
+            return Some(Rule::HeaderNumbers);
+        }
+        None
+    }
+
+    // The first rule that the header of the root breaks, on a device of `size` blocks.
+    pub fn broken_root_rule(&self, size: u32) -> Option<Rule>
+        ensures value { λ r. ⌜ r ≡ first-broken (root-header-rules size (now (self .entry))) ⌝ }
+        ensures fits { λ r. ⌜ Cases r ((now (self .entry) .count ≤ 256) × ((0 < now (self .entry) .level) × ((1 ≤ now (self .entry) .children) × (now (self .entry) .children ≤ 8)))) (λ _. Unit {0}) ⌝ }
+    {
+        if self.level < 1 || self.level > 8 {
+            return Some(Rule::Level);
+        }
+        if self.mark < 1 || self.mark > 2 {
+            return Some(Rule::Mark);
+        }
+        if self.count > 256 {
+            return Some(Rule::Count);
+        }
+        let least = if self.level == 1 { 1 } else { 2 };
+        if self.children < least || self.children > 8 {
+            return Some(Rule::Children);
+        }
+        if self.next_free < 2 || self.next_free > size || self.updates > 4_294_967_296 {
+            return Some(Rule::HeaderNumbers);
+        }
+        None
+    }
+}
