@@ -1,2 +1,3 @@
 pub mod Passes
 pub mod Written
+pub mod Loaded

@@ -41,11 +41,11 @@ header-below kind x = record {
 }
 
 -- the block of a node below the root
-abbrev pub node-block : ℕ → Node → List ℕ
+unfoldable pub node-block : ℕ → Node → List ℕ
 node-block kind x = header-coding .encode (header-below kind x) ++ tables-of x
 
 -- what a block's header says
-abbrev pub header-of : List ℕ → Header
+unfoldable pub header-of : List ℕ → Header
 header-of bs = header-coding .decode bs
 
 -- what the tables of an inner node say, and those of a leaf

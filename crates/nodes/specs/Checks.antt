@@ -85,7 +85,7 @@ abbrev pub table-rules : Place → Header → List ℕ → List (Bool × Rule)
 table-rules p h bs = cond (eqb (p .level) 0) (leaf-rules p h bs) (inner-rules p h bs)
 
 -- the first rule that a block breaks at a place below the root
-abbrev pub node-fault : Place → List ℕ → Option Rule
+unfoldable pub node-fault : Place → List ℕ → Option Rule
 node-fault p bs = first-broken (header-rules p (header-of bs) ++ table-rules p (header-of bs) bs)
 
 -- the root has all keys, and says itself what its level, its kind and the next free number are
@@ -93,7 +93,7 @@ abbrev pub root-place : Header → Place
 root-place h = record { level = h .level; low = 0; high = 4294967296; kind = h .kind; «next_free» = h .«next_free» }
 
 -- the first rule that block 0 breaks on a device of a size
-abbrev pub root-fault : ℕ → List ℕ → Option Rule
+unfoldable pub root-fault : ℕ → List ℕ → Option Rule
 root-fault size bs = first-broken (root-header-rules size (header-of bs) ++ table-rules (root-place (header-of bs)) (header-of bs) bs)
 
 -- a result by the first rule that is broken, if any

@@ -6,3 +6,4 @@ pub mod Trees
 pub mod Views
 pub mod Blocks
 pub mod Checks
+pub mod Roots

@@ -1,0 +1,63 @@
+-- The root, and what its block has besides its node.
+use mathlib.Core.List.{List, [], _∷_, _++_}
+use Prim.Native.Nat.{ℕ}
+use lib.ListN.{length}
+use Rattle.nodes.specs.Blocks.{count-of, header-of, node-of, tables-of}
+use Rattle.nodes.specs.Checks.{root-place}
+use Rattle.nodes.specs.Headers.{header-coding}
+use Rattle.nodes.specs.Marks.{mark-number}
+use Rattle.nodes.specs.Trees.{Node}
+use Rattle.nodes.specs.Views.{view}
+use Rattle.nodes.specs.declared.header.Header.{Header}
+use Rattle.nodes.specs.declared.mark.Mark.{Mark}
+use Rattle.nodes.specs.declared.root.Root.{Root as RootInMemory}
+
+pub record Root : Type 0 where
+  pub node : Node
+  pub kind : ℕ
+  pub next-free : ℕ
+  pub updates : ℕ
+  pub tree-writes : ℕ
+
+-- a root in memory as a value
+abbrev pub view-root : RootInMemory → Root
+view-root x = record { node = view (x .node); kind = x .kind; next-free = x .«next_free»; updates = x .updates; tree-writes = x .«tree_writes» }
+
+abbrev pub root-header : Mark → Root → Header
+root-header mark x = record {
+  level = x .node .frame .level;
+  mark = mark-number mark;
+  count = count-of (x .node);
+  children = length (x .node .frame .children);
+  kind = x .kind;
+  unused = 0;
+  «next_free» = x .next-free;
+  gap = 0;
+  updates = x .updates;
+  «tree_writes» = x .tree-writes;
+}
+
+-- the block of the root, under a mark
+unfoldable pub root-block : Mark → Root → List ℕ
+root-block mark x = header-coding .encode (root-header mark x) ++ tables-of (x .node)
+
+-- the root that a header and the tables behind it say
+abbrev pub root-by : Header → List ℕ → Root
+root-by h bs = record { node = node-of (root-place h) h bs; kind = h .kind; next-free = h .«next_free»; updates = h .updates; tree-writes = h .«tree_writes» }
+
+-- the root that block 0 says
+abbrev pub root-of : List ℕ → Root
+root-of bs = root-by (header-of bs) bs
+
+abbrev pub empty-leaf : ℕ → ℕ → Node
+empty-leaf low high = record { frame = record { level = 0; low = low; high = high; pivots = []; children = [] }; messages = []; records = [] }
+
+-- the root as a store begins: level 1, child 1, all keys, next free number 2
+abbrev pub fresh-root : ℕ → Root
+fresh-root kind = record {
+  node = record { frame = record { level = 1; low = 0; high = 4294967296; pivots = []; children = 1 ∷ [] }; messages = []; records = [] };
+  kind = kind;
+  next-free = 2;
+  updates = 0;
+  tree-writes = 0;
+}

@@ -1,0 +1,93 @@
+// The root and its block.
+ghost use mathlib.Core.Path.{_≡_};
+ghost use mathlib.Core.Bool.{true};
+ghost use Rattle.std.specs.Results.{isOk};
+ghost use Rattle.nodes.specs.Checks.{root-fault, root-place, verdict};
+ghost use Rattle.nodes.specs.Blocks.{header-of};
+ghost use Rattle.nodes.specs.Marks.{mark-of};
+ghost use Rattle.nodes.specs.Roots.{root-header, root-block, root-of, view-root};
+use crate::header::Header;
+use crate::header::HeaderRow;
+use crate::mark::Mark;
+use crate::place::Place;
+use crate::root::Root;
+use crate::rule::Rule;
+use rows::row::Row;
+
+impl Header {
+    // Where the root stands, as its own header says.
+    fn root_place(&self) -> Place
+        ensures { λ r. ⌜ r ≡ root-place (now (self .entry)) ⌝ }
+    {
+        Place {
+            level: self.level,
+            low: 0,
+            high: 4_294_967_296,
+            kind: self.kind,
+            next_free: self.next_free,
+        }
+    }
+
+    // The root's mark, where it is 1 or 2.
+    fn root_mark(&self) -> Mark
+        ensures { λ r. ⌜ r ≡ mark-of (now (self .entry) .mark) ⌝ }
+    {
+        if self.mark == 1 {
+            Mark::Closed
+        } else {
+            Mark::InUse
+        }
+    }
+}
+
+impl Root {
+    // The header of the root.
+    fn header(&self, mark: Mark) -> Header
+        ensures { λ r. ⌜ r ≡ root-header mark (view-root (now (self .entry))) ⌝ }
+    {
+        let count = if self.node.level == 0 {
+            self.node.records.len()
+        } else {
+            self.node.messages.len()
+        };
+        Header {
+            level: self.node.level,
+            mark: mark.number(),
+            count: count as u16,
+            children: self.node.children.len() as u8,
+            kind: self.kind,
+            unused: 0,
+            next_free: self.next_free,
+            gap: 0,
+            updates: self.updates,
+            tree_writes: self.tree_writes,
+        }
+    }
+
+    // Fills the block with the root, under a mark.
+    pub fn write(&self, mark: Mark, block: &mut [u8; 4096])
+        ensures { λ _. ⌜ now (block .exit) ≡ root-block mark (view-root (now (self .entry))) ⌝ }
+    {
+        self.header(mark).write(&mut block[0..32]);
+        self.node.write_tables(block);
+    }
+
+    // Takes over the root of a block on a device of `size` blocks and gives its mark, or tells the first rule that the block breaks.
+    pub fn read(&mut self, size: u32, block: &[u8; 4096]) -> Result<Mark, Rule>
+        ensures answer { λ r. ⌜ r ≡ verdict (mark-of (header-of (now (block .entry)) .mark)) (root-fault size (now (block .entry))) ⌝ }
+        ensures root { λ r. ⌜ (isOk r ≡ true → view-root (now (self .exit)) ≡ root-of (now (block .entry))) ⌝ }
+    {
+        let header = Header::read(block);
+        if let Some(rule) = header.broken_root_rule(size) {
+            return Err(rule);
+        }
+        self.kind = header.kind;
+        self.next_free = header.next_free;
+        self.updates = header.updates;
+        self.tree_writes = header.tree_writes;
+        match self.node.load(&header.root_place(), &header, block) {
+            Some(rule) => Err(rule),
+            None => Ok(header.root_mark()),
+        }
+    }
+}
