@@ -1,0 +1,67 @@
+-- What holds of every tree that updates grow: it is reached by operations, its sizes are right, and its writes are counted.
+use mathlib.Core.Path.{_≡_, refl, ap, sym, subst, subst₂, _∙_}
+use mathlib.Core.Bool.{Bool, true, false, cond}
+use mathlib.Core.List.{List, [], _∷_, map}
+use Prim.Native.Nat.{ℕ, zero, suc, _+_, _-_, _*_, _^_, _≤_, _<_}
+use native.Mathlib.Omega.{arith}
+use lib.Dec.{eqb, ltb}
+use lib.ListN.{length, getD}
+use Rattle.std.proofs.shelf.Lists.{length-map}
+use Rattle.messages.specs.Algebra.{Algebra}
+use Rattle.messages.specs.declared.entry.Entry.{Entry}
+use Rattle.messages.specs.declared.message.Message.{Message}
+use Rattle.tree.specs.Laws.{Keys, Wear, Wear-law}
+use Rattle.tree.specs.Lookup.{lookup, said}
+use Rattle.tree.specs.Nodes.{Node, node, height}
+use Rattle.tree.specs.Operations.{fresh}
+use Rattle.tree.specs.Shape.{Tree, All-sized}
+use Rattle.tree.specs.Update.{grown, tree-writes}
+use Rattle.tree.proofs.Wear.{Shape, shape}
+use Rattle.tree.proofs.Reached.{Reached, shape-of}
+use Rattle.tree.proofs.Reached.Reached.{start}
+use Rattle.tree.proofs.Invariants.{says-as-told, worn, tree, inv}
+use Rattle.tree.proofs.Real.{at-shape}
+use Rattle.tree.proofs.Update.{updated}
+
+pub record Held (K : Algebra) (h : List (Entry Message)) : Type 0 where
+  pub moves : ℕ
+  pub reached : Reached K (grown K h) h moves
+  pub sized : All-sized (grown K h)
+  pub tally : tree-writes K h + 2 ≡ moves + length (grown K h)
+
+fresh-sized : All-sized fresh
+fresh-sized zero h = record { messages-le = omega arith; records-le = omega arith; children-le = omega arith; leaf = λ e. absurd (omega arith); bare = λ _. refl; inner = λ g o. absurd (omega arith) }
+fresh-sized (suc zero) h = record { messages-le = omega arith; records-le = omega arith; children-le = omega arith; leaf = λ _. refl; bare = λ _. refl; inner = λ g. absurd (omega arith) }
+fresh-sized (suc (suc b)) h = absurd (omega arith)
+
+pub held : (K : Algebra) (h : List (Entry Message)) → Keys h → Held K h
+held K [] ks = record { moves = 0; reached = start; sized = fresh-sized; tally = refl }
+held K (e ∷ h) ks =
+    let i = held K h (ks .1) in
+    let d = updated K (grown K h) h (i .moves) (e .key) (e .value) (ks .0) (i .reached) (i .sized) in
+    record { moves = d .moves; reached = d .reached; sized = d .sized; tally = omega (arith, d .tally, i .tally) }
+
+pub grown-tree : (K : Algebra) (h : List (Entry Message)) → Keys h → Tree (grown K h)
+grown-tree K h ks = let i = held K h ks in tree K (grown K h) h (i .moves) (i .reached)
+
+pub grown-says : (K : Algebra) (h : List (Entry Message)) → Keys h → (k : ℕ) → k < 2 ^ 32 → lookup K (grown K h) k ≡ said K k h
+grown-says K h ks k lt = let i = held K h ks in says-as-told K (grown K h) h (i .moves) (i .reached) k lt
+
+-- ---- wear
+level-of : (a : List Node) → getD (map shape-of a) 0 (shape 0 0 0) .level ≡ height a
+level-of a = ap (λ (x : Shape). x .level) (at-shape a 0)
+
+pub wear : Wear-law
+wear K h ks =
+    let i = held K h ks in
+    let w = worn K (grown K h) h (i .moves) (i .reached) in
+    let v = inv K (grown K h) h (i .moves) (i .reached) in
+    let counted : i .moves + (length (grown K h) - 2) ≡ tree-writes K h = omega (arith, i .tally, v .written, length-map (grown K h) shape-of) in
+    record {
+      pace = subst₂ (λ x y. 16 * x ≤ length h * (y + 1)) counted (level-of (grown K h)) (w .pace);
+      tall = subst (λ y. 2 ≤ y → 113 * (2 * 4 ^ (y - 1) - 1) ≤ length h) (level-of (grown K h)) (w .tall);
+    }
+
+-- three blocks are taken beyond the first two for each 226 updates at most
+pub room : (K : Algebra) (h : List (Entry Message)) → Keys h → 226 * (length (grown K h) - 2) ≤ 3 * length h
+room K h ks = let i = held K h ks in omega (arith, worn K (grown K h) h (i .moves) (i .reached) .room, length-map (grown K h) shape-of)

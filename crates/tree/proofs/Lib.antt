@@ -1,0 +1,16 @@
+pub mod Wear
+pub mod Sums
+pub mod Keeps
+pub mod Ends
+pub mod Lists
+pub mod Lengths
+pub mod Reached
+pub mod Frames
+pub mod Halves
+pub mod Move
+pub mod Split
+pub mod Cut
+pub mod Real
+pub mod Invariants
+pub mod Update
+pub mod Grown

@@ -1,0 +1,142 @@
+-- The laws of every tree that updates grow from a fresh one. Each is the contract of a function in src/lib.rt.
+use mathlib.Core.Path.{_≡_}
+use mathlib.Core.Logic.{_≢_}
+use mathlib.Core.Bool.{cond}
+use mathlib.Core.List.{List, [], _∷_}
+use Prim.Native.Nat.{ℕ, zero, suc, _+_, _-_, _*_, _%_, _^_, _≤_, _<_, min}
+use lib.IntN.{ℤ, pos, natAbs, _+ℤ_}
+use lib.ListN.{length}
+use Rattle.std.specs.declared.option.Option.the-variants.{Some, None}
+use Rattle.messages.specs.Algebra.{Algebra}
+use Rattle.messages.specs.Lists.{entry, find, batch-size, Within}
+use Rattle.messages.specs.Messages.{effect}
+use Rattle.messages.specs.Quantity.{quantity-algebra}
+use Rattle.messages.specs.Words.{signed}
+use Rattle.messages.specs.declared.entry.Entry.{Entry}
+use Rattle.messages.specs.declared.message.Message.{Message}
+use Rattle.messages.specs.declared.message.Message.the-variants.{Put, Remove, Add}
+use Rattle.tree.specs.Lookup.{lookup, said}
+use Rattle.tree.specs.Nodes.{Node, node, height, next-free}
+use Rattle.tree.specs.Operations.{joined}
+use Rattle.tree.specs.Query.{query, page, leaf-frame, entries}
+use Rattle.tree.specs.Shape.{Good-tree}
+use Rattle.tree.specs.Update.{prepared, target, after-step, raised, update, writes, grown, tree-writes}
+
+-- all keys are below 2^32
+abbrev pub Keys : List (Entry Message) → Type 0
+Keys [] = Unit {0}
+Keys (e ∷ h) = (e .key < 2 ^ 32) × Keys h
+
+-- ---- map
+-- a query finds what the messages say of the key, and reads at most as many blocks as the tree is high
+pub record Query-answer (K : Algebra) (h : List (Entry Message)) (k : ℕ) : Type 0 where
+  pub value : query K (grown K h) k .value ≡ said K k h
+  pub reads : query K (grown K h) k .reads ≤ height (grown K h)
+
+abbrev pub Map-law : Type 0
+Map-law = (K : Algebra) (h : List (Entry Message)) → Keys h → (k : ℕ) → k < 2 ^ 32 → Query-answer K h k
+
+-- ---- one update
+-- the message acts on what stood for its key, and every other key stands as before
+pub record Update-effect (K : Algebra) (a : List Node) (k : ℕ) (m : Message) : Type 0 where
+  pub here : lookup K (update K k m a) k ≡ effect K m (lookup K a k)
+  pub elsewhere : (j : ℕ) → j < 2 ^ 32 → j ≢ k → lookup K (update K k m a) j ≡ lookup K a j
+
+abbrev pub Update-law : Type 0
+Update-law = (K : Algebra) (h : List (Entry Message)) → Keys h → (k : ℕ) (m : Message) → k < 2 ^ 32 → Update-effect K (grown K h) k m
+
+-- ---- page
+-- the page from first to last: exactly the keys present from first up to last or the end of the leaf's span, rising, with what the messages say
+pub record Page-answer (K : Algebra) (h : List (Entry Message)) (first last : ℕ) : Type 0 where
+  -- the leaf's span holds the first key
+  pub span-from : leaf-frame (grown K h) first .low ≤ first
+  pub span-upto : first < leaf-frame (grown K h) first .high
+  pub rising : Within first (min (suc last) (leaf-frame (grown K h) first .high)) (page K (grown K h) first last .entries)
+  pub exact : (k : ℕ) → first ≤ k → k ≤ last → k < leaf-frame (grown K h) first .high → find k (page K (grown K h) first last .entries) ≡ said K k h
+  -- the first key past the span, if that is at most last
+  pub next-none : last < leaf-frame (grown K h) first .high → page K (grown K h) first last .next ≡ None
+  pub next-some : leaf-frame (grown K h) first .high ≤ last → page K (grown K h) first last .next ≡ Some (leaf-frame (grown K h) first .high)
+  pub reads : page K (grown K h) first last .reads ≡ height (grown K h)
+  -- the leaf's records and the messages of each level above it: at most 2304 in a tree of height 8
+  pub few : length (page K (grown K h) first last .entries) ≤ 256 * (height (grown K h) + 1)
+
+abbrev pub Page-law : Type 0
+Page-law = (K : Algebra) (h : List (Entry Message)) → Keys h → (first last : ℕ) → first ≤ last → last < 2 ^ 32 → Page-answer K h first last
+
+-- ---- total
+-- page by page every present key of the range is met once, in rising order
+pub record Total-answer (K : Algebra) (h : List (Entry Message)) (first last : ℕ) : Type 0 where
+  pub rising : Within first (suc last) (entries K (grown K h) first last)
+  pub exact : (k : ℕ) → first ≤ k → k ≤ last → find k (entries K (grown K h) first last) ≡ said K k h
+
+abbrev pub Total-law : Type 0
+Total-law = (K : Algebra) (h : List (Entry Message)) → Keys h → (first last : ℕ) → first ≤ last → last < 2 ^ 32 → Total-answer K h first last
+
+-- the sum of the words as they stand, and of the numbers that they mean
+abbrev pub sum-of-words : List (Entry ℕ) → ℕ
+sum-of-words [] = 0
+sum-of-words (x ∷ xs) = x .value + sum-of-words xs
+
+abbrev pub sum-of-numbers : List (Entry ℕ) → ℤ
+sum-of-numbers [] = pos 0
+sum-of-numbers (x ∷ xs) = signed (x .value) +ℤ sum-of-numbers xs
+
+-- a message of an amount within ±m
+abbrev pub Amount : ℕ → Message → Type 0
+Amount m (Put v) = (v < 2 ^ 64) × (natAbs (signed v) ≤ m)
+Amount m Remove = Unit {0}
+Amount m (Add d) = (d < 2 ^ 64) × (natAbs (signed d) ≤ m)
+
+abbrev pub Amounts : ℕ → List (Entry Message) → Type 0
+Amounts m [] = Unit {0}
+Amounts m (e ∷ h) = Amount m (e .value) × Amounts m h
+
+-- with amounts of at most 10^9 and at most 2^32 updates, the words of a range, added modulo 2^64 and read as signed, give the true sum
+abbrev pub Sum-law : Type 0
+Sum-law = (h : List (Entry Message)) → Keys h → Amounts (10 ^ 9) h → length h ≤ 2 ^ 32 → (first last : ℕ) → first ≤ last → last < 2 ^ 32
+    → let xs = entries quantity-algebra (grown quantity-algebra h) first last in signed (sum-of-words xs % 2 ^ 64) ≡ sum-of-numbers xs
+
+-- ---- shape
+abbrev pub Shape-law : Type 0
+Shape-law = (K : Algebra) (h : List (Entry Message)) → Keys h → Good-tree (grown K h)
+
+-- each step from the node p, of level l, on moves a full batch of 16 messages
+abbrev pub Full-batches : Algebra → ℕ → List Node → ℕ → Type 0
+Full-batches K zero a p = Unit {0}
+Full-batches K (suc l) a p =
+    256 < length (node a p .messages)
+    → (batch-size (node (prepared a p) (target a p) .frame .low) (node (prepared a p) (target a p) .frame .high) (node (prepared a p) p .messages) ≡ 16)
+    × Full-batches K l (after-step K a p) (target a p)
+
+abbrev pub Batch-law : Type 0
+Batch-law = (K : Algebra) (h : List (Entry Message)) → Keys h → (k : ℕ) (m : Message) → k < 2 ^ 32
+    → let a = raised (grown K h) in Full-batches K (height a) (joined K k m a) 0
+
+-- ---- wear
+pub record Wear (K : Algebra) (h : List (Entry Message)) : Type 0 where
+  -- 16 updates cost at most as many writes as the tree has levels, the leaves' included
+  pub pace : 16 * tree-writes K h ≤ length h * (height (grown K h) + 1)
+  -- and many updates are needed for a high tree
+  pub tall : 2 ≤ height (grown K h) → 113 * (2 * 4 ^ (height (grown K h) - 1) - 1) ≤ length h
+
+abbrev pub Wear-law : Type 0
+Wear-law = (K : Algebra) (h : List (Entry Message)) → Keys h → Wear K h
+
+-- what one update costs at most, by the height before it: writes, and blocks taken
+pub record Cost (K : Algebra) (a : List Node) (k : ℕ) (m : Message) : Type 0 where
+  pub writes-at-most : writes K k m a ≤ 2 * height a
+  pub blocks-at-most : next-free (update K k m a) ≤ next-free a + (height a + 1)
+
+abbrev pub Cost-law : Type 0
+Cost-law = (K : Algebra) (h : List (Entry Message)) → Keys h → (k : ℕ) (m : Message) → k < 2 ^ 32 → Cost K (grown K h) k m
+
+-- ---- a known run
+-- puts of the value v to the keys 1 to n, rising
+abbrev pub rising-keys : ℕ → ℕ → List (Entry Message)
+rising-keys v zero = []
+rising-keys v (suc n) = entry (suc n) (Put v) ∷ rising-keys v n
+
+pub record Known-run (K : Algebra) (v : ℕ) : Type 0 where
+  pub writes-are : tree-writes K (rising-keys v 513) ≡ 18
+  pub height-is : height (grown K (rising-keys v 513)) ≡ 1
+  pub next-is : next-free (grown K (rising-keys v 513)) ≡ 3

@@ -1,0 +1,2 @@
+// The tree as a value, and its laws.
+pub fn nothing_yet() {}
