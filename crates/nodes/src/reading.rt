@@ -4,7 +4,7 @@ ghost use mathlib.Core.Bool.{true};
 ghost use Prim.Native.Nat.{_≤_, _<_};
 ghost use Rattle.std.specs.Results.{isOk};
 ghost use mathlib.Core.List.{[], _∷_};
-ghost use Rattle.nodes.specs.Blocks.{header-of, node-of};
+ghost use Rattle.nodes.specs.Blocks.{header-of, node-block, node-of};
 ghost use Rattle.nodes.specs.Checks.{leaf-rules, inner-rules, table-rules, node-fault, verdict};
 ghost use Rattle.nodes.specs.Rules.{first-broken};
 ghost use Rattle.nodes.specs.Views.{view};
@@ -130,6 +130,7 @@ impl Node {
     pub fn read(&mut self, place: &Place, block: &[u8; 4096]) -> Result<(), Rule>
         ensures answer { λ r. ⌜ r ≡ verdict tt (node-fault (now (place .entry)) (now (block .entry))) ⌝ }
         ensures node { λ r. ⌜ (isOk r ≡ true → view (now (self .exit)) ≡ node-of (now (place .entry)) (header-of (now (block .entry))) (now (block .entry))) ⌝ }
+        ensures exact { λ r. ⌜ (isOk r ≡ true → now (block .entry) ≡ node-block (now (place .entry) .kind) (view (now (self .exit)))) ⌝ }
     {
         let header = Header::read(block);
         if let Some(rule) = header.broken_rule(place) {

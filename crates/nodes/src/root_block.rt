@@ -2,6 +2,7 @@
 ghost use mathlib.Core.Path.{_≡_};
 ghost use mathlib.Core.Bool.{true};
 ghost use Rattle.std.specs.Results.{isOk};
+ghost use Rattle.std.specs.Vec.{made};
 ghost use Rattle.nodes.specs.Checks.{root-fault, root-place, verdict};
 ghost use Rattle.nodes.specs.Blocks.{header-of};
 ghost use Rattle.nodes.specs.Marks.{mark-of};
@@ -76,6 +77,7 @@ impl Root {
     pub fn read(&mut self, size: u32, block: &[u8; 4096]) -> Result<Mark, Rule>
         ensures answer { λ r. ⌜ r ≡ verdict (mark-of (header-of (now (block .entry)) .mark)) (root-fault size (now (block .entry))) ⌝ }
         ensures root { λ r. ⌜ (isOk r ≡ true → view-root (now (self .exit)) ≡ root-of (now (block .entry))) ⌝ }
+        ensures exact { λ r. ⌜ made r (λ mark. now (block .entry) ≡ root-block mark (view-root (now (self .exit)))) ⌝ }
     {
         let header = Header::read(block);
         if let Some(rule) = header.broken_root_rule(size) {
