@@ -61,9 +61,13 @@ acts-in K xs (b ∷ bs) = acts-in K (act-in K (b .key) (b .value) xs) bs
 abbrev pub pending : ℕ → ℕ → List (Entry Message) → ℕ
 pending low high xs = below high xs - below low xs
 
--- how many of them leave: 16, or all if they are fewer
+-- how many messages move at once, at most
+abbrev pub most-moving : ℕ
+most-moving = 16
+
+-- how many of those pending leave
 abbrev pub batch-size : ℕ → ℕ → List (Entry Message) → ℕ
-batch-size low high xs = min 16 (pending low high xs)
+batch-size low high xs = min most-moving (pending low high xs)
 
 -- the messages that leave, those of smallest key from low on and below high
 abbrev pub batch : ℕ → ℕ → List (Entry Message) → List (Entry Message)

@@ -6,14 +6,14 @@ ghost use Prim.Native.Nat.{_+_, _≤_, _<_};
 ghost use lib.ListN.{length};
 ghost use Rattle.std.specs.Options.{isSome};
 ghost use Rattle.std.specs.Of.Vec.{vec-items, vec-len, vec-cap};
-ghost use Rattle.messages.specs.Lists.{below, find, join-in, act-in, batch, batch-size, rest};
+ghost use Rattle.messages.specs.Lists.{below, find, join-in, act-in, batch, batch-size, most-moving, rest};
 ghost use Rattle.messages.specs.Places.{value-at};
 use crate::entry::Entry;
 use crate::kind::Kind;
 use crate::message::Message;
 
-// How many messages at most move from a node to its child at once.
-pub const BATCH: usize = 16;
+// How many messages move from a node to its child at once, at most.
+pub const MOST_MOVING: usize = 16;
 
 // How many entries at the front have a key below `key`, in any list: where keys rise, the place of `key`.
 pub fn place_of<V>(entries: &[Entry<V>], key: u64) -> usize
@@ -93,14 +93,14 @@ pub fn apply_message<K: Kind>(records: &mut Vec<Entry<u64>>, message: Entry<Mess
     }
 }
 
-// Moves the messages of smallest key from `low` on and below `high`, at most a batch of them, to the end of `out`.
+// Moves the messages of smallest key from `low` on and below `high`, at most `MOST_MOVING`, to the end of `out`.
 pub fn take_batch(
     messages: &mut Vec<Entry<Message>>,
     low: u32,
     high: u64,
     out: &mut Vec<Entry<Message>>,
 )
-    requires { ⌜ vec-len (now out) + 16 ≤ vec-cap (now out) ⌝ }
+    requires { ⌜ vec-len (now out) + most-moving ≤ vec-cap (now out) ⌝ }
     ensures taken { λ _. ⌜ vec-items (now (out .exit)) ≡ vec-items (now (out .entry)) ++ batch low high (vec-items (now (messages .entry))) ⌝ }
     ensures kept { λ _. ⌜ vec-items (now (messages .exit)) ≡ rest low high (vec-items (now (messages .entry))) ⌝ }
     ensures taken_len { λ _. ⌜ vec-len (now (out .exit)) ≡ vec-len (now (out .entry)) + batch-size low high (vec-items (now (messages .entry))) ⌝ }
@@ -109,7 +109,9 @@ pub fn take_batch(
     ensures kept_room { λ _. ⌜ vec-cap (now (messages .exit)) ≡ vec-cap (now (messages .entry)) ⌝ }
 {
     let first = place_of(messages, u64::from(low));
-    let count = place_of(messages, high).saturating_sub(first).min(BATCH);
+    let count = place_of(messages, high)
+        .saturating_sub(first)
+        .min(MOST_MOVING);
     let next = first + count;
     let len = messages.len();
     let _ = out.extend_from_slice(&messages[first..next]);

@@ -1,3 +1,5 @@
 pub mod Passes
 pub mod Written
 pub mod Loaded
+pub mod TablesBack
+pub mod RoundTrips

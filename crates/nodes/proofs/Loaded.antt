@@ -25,7 +25,7 @@ use Rattle.nodes.specs.Blocks.{header-of, node-of, pivots-of, children-of, mes
 use Rattle.nodes.specs.Checks.{leaf-rules, inner-rules, table-rules, header-rules, unused-zero, verdict}
 use Rattle.nodes.specs.Keys.{rising, numbers-below, known-row, exact-row, rows-in-order, rows-exact}
 use Rattle.nodes.specs.Rules.{first-broken}
-use Rattle.nodes.specs.Trees.{Node}
+use Rattle.tree.specs.Nodes.{Node}
 
 -- a rule that is broken among the first is the first
 pub first-some : (ts us : List (Bool × Rule)) (r : Rule) → Some r ≡ first-broken ts → Some r ≡ first-broken (ts ++ us)

@@ -14,7 +14,7 @@ use Rattle.rows.specs.Tables.{table-of}
 use Rattle.messages.specs.declared.entry.Entry.{Entry}
 use Rattle.messages.specs.declared.message.Message.{Message}
 use Rattle.nodes.specs.Blocks.{tables-of}
-use Rattle.nodes.specs.Trees.{Node}
+use Rattle.tree.specs.Nodes.{Node}
 
 -- the last part of a list is written over
 pub last-part : (a k : ℕ) (xs ys : List ℕ) → length xs ≡ a + k → putMid a k xs ys ≡ take a xs ++ ys

@@ -13,7 +13,7 @@ use Rattle.rows.specs.Tables.{table-of, values-of}
 use Rattle.nodes.specs.declared.header.Header.{Header}
 use Rattle.nodes.specs.declared.place.Place.{Place}
 use Rattle.nodes.specs.Headers.{header-coding}
-use Rattle.nodes.specs.Trees.{Node}
+use Rattle.tree.specs.Nodes.{Node}
 
 -- a leaf's records from byte 32; an inner node's pivots from byte 32, child numbers from byte 60 and messages from byte 92
 abbrev pub tables-of : Node → List ℕ

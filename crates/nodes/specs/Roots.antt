@@ -1,12 +1,13 @@
 -- The root, and what its block has besides its node.
-use mathlib.Core.List.{List, [], _∷_, _++_}
+use mathlib.Core.List.{List, [], _++_}
 use Prim.Native.Nat.{ℕ}
 use lib.ListN.{length}
 use Rattle.nodes.specs.Blocks.{count-of, header-of, node-of, tables-of}
 use Rattle.nodes.specs.Checks.{root-place}
 use Rattle.nodes.specs.Headers.{header-coding}
 use Rattle.nodes.specs.Marks.{mark-number}
-use Rattle.nodes.specs.Trees.{Node}
+use Rattle.tree.specs.Nodes.{Node, node}
+use Rattle.tree.specs.Operations.{fresh}
 use Rattle.nodes.specs.Views.{view}
 use Rattle.nodes.specs.declared.header.Header.{Header}
 use Rattle.nodes.specs.declared.mark.Mark.{Mark}
@@ -52,10 +53,10 @@ root-of bs = root-by (header-of bs) bs
 abbrev pub empty-leaf : ℕ → ℕ → Node
 empty-leaf low high = record { frame = record { level = 0; low = low; high = high; pivots = []; children = [] }; messages = []; records = [] }
 
--- the root as a store begins: level 1, child 1, all keys, next free number 2
+-- the root as a store begins: that of a fresh tree, with 2 as the next free number
 abbrev pub fresh-root : ℕ → Root
 fresh-root kind = record {
-  node = record { frame = record { level = 1; low = 0; high = 4294967296; pivots = []; children = 1 ∷ [] }; messages = []; records = [] };
+  node = node fresh 0;
   kind = kind;
   next-free = 2;
   updates = 0;

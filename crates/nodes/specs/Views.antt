@@ -1,6 +1,6 @@
 -- A node in memory as the tree has it.
 use Rattle.std.specs.Of.Vec.{vec-items}
-use Rattle.nodes.specs.Trees.{Node}
+use Rattle.tree.specs.Nodes.{Node}
 use Rattle.nodes.specs.declared.node.Node.{Node as NodeInMemory}
 
 abbrev pub view : NodeInMemory → Node

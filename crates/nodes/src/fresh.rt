@@ -1,8 +1,15 @@
 // Making nodes: with room for all that they may ever hold, and as a store begins.
 ghost use mathlib.Core.Path.{_≡_};
 ghost use Rattle.std.specs.Vec.{made};
+ghost use Rattle.tree.specs.Nodes.{node};
+ghost use Rattle.tree.specs.Operations.{fresh};
 ghost use Rattle.nodes.specs.Roots.{empty-leaf, fresh-root, view-root};
 ghost use Rattle.nodes.specs.Views.{view};
+use crate::limits::FIRST_FREE;
+use crate::limits::KEYS_END;
+use crate::limits::MOST_CHILDREN;
+use crate::limits::MOST_ENTRIES;
+use crate::limits::MOST_MESSAGES;
 use crate::node::Node;
 use crate::root::Root;
 use std::alloc::AllocError;
@@ -17,10 +24,10 @@ impl Node {
             level: 0,
             low: 0,
             high: 0,
-            pivots: Vec::with_capacity(heap, 7)?,
-            children: Vec::with_capacity(heap, 8)?,
-            messages: Vec::with_capacity(heap, 272)?,
-            records: Vec::with_capacity(heap, 256)?,
+            pivots: Vec::with_capacity(heap, MOST_CHILDREN as usize - 1)?,
+            children: Vec::with_capacity(heap, MOST_CHILDREN as usize)?,
+            messages: Vec::with_capacity(heap, MOST_MESSAGES)?,
+            records: Vec::with_capacity(heap, MOST_ENTRIES)?,
         })
     }
 
@@ -36,6 +43,20 @@ impl Node {
         self.messages.clear();
         self.records.clear();
     }
+
+    // Empties the node, and makes it the root of a fresh tree: of level 1, with the one child 1, for all keys.
+    fn make_first_root(&mut self)
+        ensures { λ _. ⌜ view (now (self .exit)) ≡ node fresh 0 ⌝ }
+    {
+        self.level = 1;
+        self.low = 0;
+        self.high = KEYS_END;
+        self.pivots.clear();
+        self.children.clear();
+        self.children.push_reserved(1);
+        self.messages.clear();
+        self.records.clear();
+    }
 }
 
 impl Root {
@@ -46,7 +67,7 @@ impl Root {
         let mut root = Root {
             node: Node::new(heap)?,
             kind,
-            next_free: 2,
+            next_free: FIRST_FREE,
             updates: 0,
             tree_writes: 0,
         };
@@ -54,16 +75,14 @@ impl Root {
         Ok(root)
     }
 
-    // Makes the root what it is as a store of a kind begins: of level 1, with the one child 1, for all keys.
+    // Makes the root what it is as a store of a kind begins.
     pub fn make_fresh(&mut self, kind: u8)
         ensures { λ _. ⌜ view-root (now (self .exit)) ≡ fresh-root kind ⌝ }
     {
         self.kind = kind;
-        self.next_free = 2;
+        self.next_free = FIRST_FREE;
         self.updates = 0;
         self.tree_writes = 0;
-        self.node.make_leaf(0, 4_294_967_296);
-        self.node.level = 1;
-        self.node.children.push_reserved(1);
+        self.node.make_first_root();
     }
 }

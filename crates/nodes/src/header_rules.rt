@@ -5,6 +5,12 @@ ghost use Rattle.std.specs.Options.{Cases};
 ghost use Rattle.nodes.specs.Checks.{header-rules, root-header-rules, header-zero, unused-zero};
 ghost use Rattle.nodes.specs.Rules.{first-broken};
 use crate::header::Header;
+use crate::limits::FIRST_FREE;
+use crate::limits::LEAST_CHILDREN;
+use crate::limits::MOST_CHILDREN;
+use crate::limits::MOST_ENTRIES;
+use crate::limits::MOST_LEVEL;
+use crate::limits::MOST_UPDATES;
 use crate::place::Place;
 use crate::rule::Rule;
 
@@ -34,14 +40,14 @@ impl Header {
         if self.mark != 0 {
             return Some(Rule::Mark);
         }
-        if self.count > 256 {
+        if self.count as usize > MOST_ENTRIES {
             return Some(Rule::Count);
         }
         if place.level == 0 {
             if self.children != 0 {
                 return Some(Rule::Children);
             }
-        } else if self.children < 4 || self.children > 8 {
+        } else if self.children < LEAST_CHILDREN || self.children > MOST_CHILDREN {
             return Some(Rule::Children);
         }
         if self.kind != place.kind {
@@ -58,20 +64,20 @@ impl Header {
         ensures value { λ r. ⌜ r ≡ first-broken (root-header-rules size (now (self .entry))) ⌝ }
         ensures fits { λ r. ⌜ Cases r ((now (self .entry) .count ≤ 256) × ((0 < now (self .entry) .level) × ((1 ≤ now (self .entry) .children) × (now (self .entry) .children ≤ 8)))) (λ _. Unit {0}) ⌝ }
     {
-        if self.level < 1 || self.level > 8 {
+        if self.level < 1 || self.level > MOST_LEVEL {
             return Some(Rule::Level);
         }
         if self.mark < 1 || self.mark > 2 {
             return Some(Rule::Mark);
         }
-        if self.count > 256 {
+        if self.count as usize > MOST_ENTRIES {
             return Some(Rule::Count);
         }
         let least = if self.level == 1 { 1 } else { 2 };
-        if self.children < least || self.children > 8 {
+        if self.children < least || self.children > MOST_CHILDREN {
             return Some(Rule::Children);
         }
-        if self.next_free < 2 || self.next_free > size || self.updates > 4_294_967_296 {
+        if self.next_free < FIRST_FREE || self.next_free > size || self.updates > MOST_UPDATES {
             return Some(Rule::HeaderNumbers);
         }
         None

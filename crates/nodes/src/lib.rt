@@ -3,6 +3,8 @@ pub mod entries;
 pub mod fresh;
 pub mod header;
 pub mod header_rules;
+pub mod laws;
+pub mod limits;
 pub mod mark;
 pub mod node;
 pub mod numbers;

@@ -1,6 +1,6 @@
 // A node in memory, with room for all that it may ever hold.
 ghost use mathlib.Core.Path.{_≡_};
-ghost use Prim.Native.Nat.{_≤_, _<_};
+ghost use Prim.Native.Nat.{_+_, _≤_, _<_};
 ghost use Rattle.std.specs.Of.Vec.{vec-len, vec-cap};
 use messages::entry::Entry;
 use messages::message::Message;
@@ -21,5 +21,5 @@ pub struct Node {
     ghost room: { (7 ≤ vec-cap pivots) × (8 ≤ vec-cap children) × (272 ≤ vec-cap messages) × (256 ≤ vec-cap records) },
     ghost few: { (vec-len pivots ≤ 7) × (vec-len children ≤ 8) × (vec-len messages ≤ 272) × (vec-len records ≤ 256) },
     ghost leaf: { (level ≡ 0 → (vec-len pivots ≡ 0) × (vec-len children ≡ 0) × (vec-len messages ≡ 0)) },
-    ghost inner: { (0 < level → vec-len records ≡ 0) },
+    ghost inner: { (0 < level → (vec-len records ≡ 0) × (vec-len pivots + 1 ≡ vec-len children)) },
 }

@@ -4,7 +4,7 @@ ghost use mathlib.Core.Bool.{true};
 ghost use Prim.Native.Nat.{_≤_, _<_};
 ghost use Rattle.std.specs.Results.{isOk};
 ghost use mathlib.Core.List.{[], _∷_};
-ghost use Rattle.nodes.specs.Blocks.{header-of, node-of};
+ghost use Rattle.nodes.specs.Blocks.{header-of, node-block, node-of};
 ghost use Rattle.nodes.specs.Checks.{leaf-rules, inner-rules, table-rules, node-fault, verdict};
 ghost use Rattle.nodes.specs.Rules.{first-broken};
 ghost use Rattle.nodes.specs.Views.{view};
@@ -14,6 +14,7 @@ use crate::entries::RecordKeyed;
 use crate::entries::read_entries;
 use crate::header::Header;
 use crate::header::HeaderRow;
+use crate::limits::BLOCK_SIZE;
 use crate::node::Node;
 use crate::numbers::are_below;
 use crate::numbers::are_rising;
@@ -52,7 +53,12 @@ fn first_broken_table(
 
 impl Node {
     // Takes over the records of a leaf's block, and tells the first rule that its table breaks.
-    fn load_leaf(&mut self, place: &Place, header: &Header, block: &[u8; 4096]) -> Option<Rule>
+    fn load_leaf(
+        &mut self,
+        place: &Place,
+        header: &Header,
+        block: &[u8; BLOCK_SIZE],
+    ) -> Option<Rule>
         requires { ⌜ now place .level ≡ 0 ⌝ ∗ ⌜ now header .count ≤ 256 ⌝ }
         ensures fault { λ r. ⌜ r ≡ first-broken (leaf-rules (now (place .entry)) (now (header .entry)) (now (block .entry))) ⌝ }
         ensures node { λ _. ⌜ view (now (self .exit)) ≡ node-of (now (place .entry)) (now (header .entry)) (now (block .entry)) ⌝ }
@@ -66,7 +72,7 @@ impl Node {
         self.records.clear();
         let count = header.count as usize;
         let pass = read_entries(
-            &block[32..4096],
+            &block[32..BLOCK_SIZE],
             count,
             place.low,
             place.high,
@@ -81,7 +87,12 @@ impl Node {
     }
 
     // Takes over the tables of an inner node's block, and tells the first rule that they break.
-    fn load_inner(&mut self, place: &Place, header: &Header, block: &[u8; 4096]) -> Option<Rule>
+    fn load_inner(
+        &mut self,
+        place: &Place,
+        header: &Header,
+        block: &[u8; BLOCK_SIZE],
+    ) -> Option<Rule>
         requires { ⌜ 0 < now place .level ⌝ ∗ ⌜ now header .count ≤ 256 ⌝ ∗ ⌜ 1 ≤ now header .children ⌝ ∗ ⌜ now header .children ≤ 8 ⌝ }
         ensures fault { λ r. ⌜ r ≡ first-broken (inner-rules (now (place .entry)) (now (header .entry)) (now (block .entry))) ⌝ }
         ensures node { λ _. ⌜ view (now (self .exit)) ≡ node-of (now (place .entry)) (now (header .entry)) (now (block .entry)) ⌝ }
@@ -98,7 +109,7 @@ impl Node {
         let pivots_left = read_table(&block[32..60], children - 1, &mut self.pivots);
         let children_left = read_table(&block[60..92], children, &mut self.children);
         let pass = read_entries(
-            &block[92..4096],
+            &block[92..BLOCK_SIZE],
             count,
             place.low,
             place.high,
@@ -114,7 +125,7 @@ impl Node {
     }
 
     // Takes over the tables of a block whose header is good, and tells the first rule that they break.
-    pub fn load(&mut self, place: &Place, header: &Header, block: &[u8; 4096]) -> Option<Rule>
+    pub fn load(&mut self, place: &Place, header: &Header, block: &[u8; BLOCK_SIZE]) -> Option<Rule>
         requires { ⌜ now header .count ≤ 256 ⌝ ∗ ⌜ (0 < now place .level → (1 ≤ now header .children) × (now header .children ≤ 8)) ⌝ }
         ensures fault { λ r. ⌜ r ≡ first-broken (table-rules (now (place .entry)) (now (header .entry)) (now (block .entry))) ⌝ }
         ensures node { λ _. ⌜ view (now (self .exit)) ≡ node-of (now (place .entry)) (now (header .entry)) (now (block .entry)) ⌝ }
@@ -127,9 +138,10 @@ impl Node {
     }
 
     // Takes over the node of a block below the root, or tells the first rule that the block breaks at its place.
-    pub fn read(&mut self, place: &Place, block: &[u8; 4096]) -> Result<(), Rule>
+    pub fn read(&mut self, place: &Place, block: &[u8; BLOCK_SIZE]) -> Result<(), Rule>
         ensures answer { λ r. ⌜ r ≡ verdict tt (node-fault (now (place .entry)) (now (block .entry))) ⌝ }
         ensures node { λ r. ⌜ (isOk r ≡ true → view (now (self .exit)) ≡ node-of (now (place .entry)) (header-of (now (block .entry))) (now (block .entry))) ⌝ }
+        ensures exact { λ r. ⌜ (isOk r ≡ true → now (block .entry) ≡ node-block (now (place .entry) .kind) (view (now (self .exit)))) ⌝ }
     {
         let header = Header::read(block);
         if let Some(rule) = header.broken_rule(place) {

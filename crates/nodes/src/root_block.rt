@@ -2,12 +2,15 @@
 ghost use mathlib.Core.Path.{_≡_};
 ghost use mathlib.Core.Bool.{true};
 ghost use Rattle.std.specs.Results.{isOk};
+ghost use Rattle.std.specs.Vec.{made};
 ghost use Rattle.nodes.specs.Checks.{root-fault, root-place, verdict};
 ghost use Rattle.nodes.specs.Blocks.{header-of};
 ghost use Rattle.nodes.specs.Marks.{mark-of};
 ghost use Rattle.nodes.specs.Roots.{root-header, root-block, root-of, view-root};
 use crate::header::Header;
 use crate::header::HeaderRow;
+use crate::limits::BLOCK_SIZE;
+use crate::limits::KEYS_END;
 use crate::mark::Mark;
 use crate::place::Place;
 use crate::root::Root;
@@ -22,7 +25,7 @@ impl Header {
         Place {
             level: self.level,
             low: 0,
-            high: 4_294_967_296,
+            high: KEYS_END,
             kind: self.kind,
             next_free: self.next_free,
         }
@@ -65,7 +68,7 @@ impl Root {
     }
 
     // Fills the block with the root, under a mark.
-    pub fn write(&self, mark: Mark, block: &mut [u8; 4096])
+    pub fn write(&self, mark: Mark, block: &mut [u8; BLOCK_SIZE])
         ensures { λ _. ⌜ now (block .exit) ≡ root-block mark (view-root (now (self .entry))) ⌝ }
     {
         self.header(mark).write(&mut block[0..32]);
@@ -73,9 +76,10 @@ impl Root {
     }
 
     // Takes over the root of a block on a device of `size` blocks and gives its mark, or tells the first rule that the block breaks.
-    pub fn read(&mut self, size: u32, block: &[u8; 4096]) -> Result<Mark, Rule>
+    pub fn read(&mut self, size: u32, block: &[u8; BLOCK_SIZE]) -> Result<Mark, Rule>
         ensures answer { λ r. ⌜ r ≡ verdict (mark-of (header-of (now (block .entry)) .mark)) (root-fault size (now (block .entry))) ⌝ }
         ensures root { λ r. ⌜ (isOk r ≡ true → view-root (now (self .exit)) ≡ root-of (now (block .entry))) ⌝ }
+        ensures exact { λ r. ⌜ made r (λ mark. now (block .entry) ≡ root-block mark (view-root (now (self .exit)))) ⌝ }
     {
         let header = Header::read(block);
         if let Some(rule) = header.broken_root_rule(size) {

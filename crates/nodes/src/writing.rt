@@ -6,6 +6,7 @@ ghost use Rattle.nodes.specs.Blocks.{header-below, node-block, tables-of};
 ghost use Rattle.nodes.specs.Views.{view};
 use crate::header::Header;
 use crate::header::HeaderRow;
+use crate::limits::BLOCK_SIZE;
 use crate::node::Node;
 use rows::entries::MessageEntryRow;
 use rows::entries::RecordRow;
@@ -38,20 +39,20 @@ impl Node {
     }
 
     // Writes the tables behind the header.
-    pub fn write_tables(&self, block: &mut [u8; 4096])
+    pub fn write_tables(&self, block: &mut [u8; BLOCK_SIZE])
         ensures { λ _. ⌜ now (block .exit) ≡ take 32 (now (block .entry)) ++ tables-of (view (now (self .entry))) ⌝ }
     {
         if self.level == 0 {
-            write_table(&mut block[32..4096], &self.records);
+            write_table(&mut block[32..BLOCK_SIZE], &self.records);
         } else {
             write_table(&mut block[32..60], &self.pivots);
             write_table(&mut block[60..92], &self.children);
-            write_table(&mut block[92..4096], &self.messages);
+            write_table(&mut block[92..BLOCK_SIZE], &self.messages);
         }
     }
 
     // Fills the block with the node, as it stands below the root of a store of a kind.
-    pub fn write(&self, kind: u8, block: &mut [u8; 4096])
+    pub fn write(&self, kind: u8, block: &mut [u8; BLOCK_SIZE])
         ensures { λ _. ⌜ now (block .exit) ≡ node-block kind (view (now (self .entry))) ⌝ }
     {
         self.header(kind).write(&mut block[0..32]);

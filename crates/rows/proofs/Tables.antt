@@ -8,13 +8,13 @@ use native.Mathlib.Numerals.{add-one}
 use native.Mathlib.Omega.{arith}
 use borrow.Rule.Slice.PartMut.{putMid}
 use lib.Dec.{eqb}
-use lib.ListN.{length, take, drop, getD, replicate, length-append, length-drop, take-append-drop}
+use lib.ListN.{length, take, drop, getD, replicate, length-append, length-drop, length-replicate, take-append-drop}
 use Rattle.std.specs.Joined.{joined}
 use Rattle.std.specs.shelf.Lists.{All}
 use Rattle.std.proofs.shelf.Bits.{mul-le}
 use Rattle.std.proofs.shelf.Elements.{all-drop}
 use Rattle.std.proofs.shelf.Lists.{append-nil, take-more, take-all, take-rest, drop-all, drop-at, joined-more, drop-drop}
-use Rattle.std.proofs.shelf.Tests.{and-parts, eqb-true}
+use Rattle.std.proofs.shelf.Tests.{and-parts, and-from, eqb-true}
 use Rattle.rows.specs.Bytes.{Bytes, padded, all-zero}
 use Rattle.rows.specs.Coding.{Coding}
 use Rattle.rows.specs.Tables.{rows-of, table-of, values-of, all-rows, Tables-round-trip}
@@ -110,6 +110,22 @@ module _ {X : Type 0} (c : Coding X) where
       let used : length (rows-of c (values-of c n bs)) ≡ c .size * n = length-rows (values-of c n bs) ∙ ap (λ k. c .size * k) (length-values n bs) in
       let left : drop (c .size * n) bs ≡ replicate (length bs - c .size * n) 0 = zeros (drop (c .size * n) bs) (length bs - c .size * n) (length-drop (c .size * n) bs) z in
       ap (λ k. rows-of c (values-of c n bs) ++ replicate (length bs - k) 0) used ∙ ap (λ l. rows-of c (values-of c n bs) ++ l) (sym left) ∙ rows-back n bs h bytes v
+
+  -- values that fit a table fill it just so
+  pub length-table : (n : ℕ) (xs : List X) → c .size * length xs ≤ n → length (table-of c n xs) ≡ n
+  length-table n xs h = simp (length-append, length-replicate) (omega (arith, length-rows xs))
+
+  -- behind its values a table has zeros
+  pub table-end : (n : ℕ) (xs : List X) → all-zero (drop (c .size * length xs) (table-of c n xs)) ≡ true
+  table-end n xs = ap all-zero (drop-at (rows-of c xs) (replicate (n - length (rows-of c xs)) 0) (c .size * length xs) (length-rows xs)) ∙ all-zero-zeros (n - length (rows-of c xs))
+
+  -- a test that each encoding passes is passed by each row of a table
+  pub all-rows-pass : (test : List ℕ → Bool) → ((x : X) (more : List ℕ) → c .fits x ≡ true → test (c .encode x ++ more) ≡ true) → (xs : List X) (more : List ℕ) → All (λ x. c .fits x ≡ true) xs → all-rows test (c .size) (length xs) (rows-of c xs ++ more) ≡ true
+  all-rows-pass test pass [] more h = refl
+  all-rows-pass test pass (x ∷ xs) more h =
+      let all = append-assoc (c .encode x) (rows-of c xs) more in
+      let left = ap (drop (c .size)) all ∙ drop-at (c .encode x) (rows-of c xs ++ more) (c .size) (c .encode-size x) in
+      and-from _ _ (ap test all ∙ pass x (rows-of c xs ++ more) (h .0)) (ap (all-rows test (c .size) (length xs)) left ∙ all-rows-pass test pass xs more (h .1))
 
   -- the values of rows fit
   pub values-fit : (n : ℕ) (bs : List ℕ) → Bytes bs → All (λ x. c .fits x ≡ true) (values-of c n bs)

@@ -14,3 +14,11 @@ pub mod Real
 pub mod Invariants
 pub mod Update
 pub mod Grown
+pub mod Query
+pub mod Total
+pub mod Sum
+pub mod Plain
+pub mod Shapes
+pub mod Costs
+pub mod Laws
+pub mod Known

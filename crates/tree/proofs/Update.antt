@@ -19,7 +19,7 @@ use Rattle.tree.proofs.Reached.{Can-move, Can-split, Child-at, Full, Reached}
 use Rattle.tree.specs.Nodes.{Node, child, node}
 use Rattle.tree.specs.Operations.{absorb, cut-root, insert, joined, lower-half, moved, moving-batch, split, split-child, split-key, upper-half, with-new-child}
 use Rattle.tree.specs.Shape.{All-sized, Sized, Tree}
-use Rattle.tree.specs.Update.{after-step, busiest-child, busiest-place, full-at, is-full, pending-for, raised, run-steps, step-writes, target, update, upper-goes-on, writes}
+use Rattle.tree.specs.Update.{after-step, busiest-child, busiest-place, full-at, is-full, pending-for, raised, run-steps, step-writes, target, update, upper-goes-on, writes, prepared}
 use Rattle.tree.proofs.Reached.Reached.{join as r-join, move as r-move, part as r-part, rise as r-rise}
 use Rattle.tree.proofs.Frames.{Part, children-part}
 use Rattle.tree.proofs.Lengths.{length-join, length-joins, length-acts, length-rest, length-batch, below-le, crowded, below-mono}
@@ -339,6 +339,17 @@ module _ (K : Algebra) (h : List (Entry Message)) (l : ℕ) (a : List Node) (p :
             omega (arith, split-count e (upper-goes-on a p (busiest-child a p)) refl)),
       )
       go false e = (plain e, (let n : length (moved K a p (busiest-child a p)) ≡ length a = simp length-set in omega arith))
+
+  -- at least a full batch is pending for the block that messages go to
+  pub step-pending : below (node (prepared a p) (target a p) .frame .low) (node (prepared a p) p .messages) + 16 ≤ below (node (prepared a p) (target a p) .frame .high) (node (prepared a p) p .messages)
+  step-pending = go (is-full (node a (busiest-child a p))) refl (upper-goes-on a p (busiest-child a p)) refl
+    where
+      go : (b : Bool) → is-full (node a (busiest-child a p)) ≡ b → (u : Bool) → upper-goes-on a p (busiest-child a p) ≡ u
+          → below (node (cond b (split-child a p (busiest-place a p) (busiest-child a p)) a) (cond b (cond u (length a) (busiest-child a p)) (busiest-child a p)) .frame .low) (node (cond b (split-child a p (busiest-place a p) (busiest-child a p)) a) p .messages) + 16
+          ≤ below (node (cond b (split-child a p (busiest-place a p) (busiest-child a p)) a) (cond b (cond u (length a) (busiest-child a p)) (busiest-child a p)) .frame .high) (node (cond b (split-child a p (busiest-place a p) (busiest-child a p)) a) p .messages)
+      go false e u f = omega (arith, cr .1)
+      go true e true f = high-moves a tr p (busiest-place a p) (busiest-child a p) l un (g .level-is) (fu e) (g .others) (g .here) (cr .1) f .pending
+      go true e false f = low-moves a tr p (busiest-place a p) (busiest-child a p) l un (g .level-is) (fu e) (g .others) (g .here) (cr .1) f .pending
 
 -- ---- all steps
 -- w blocks were written on the way to a, from a state with as many moves and blocks as `sum` says

@@ -8,13 +8,14 @@ use lib.IntN.{ℤ, pos, natAbs, _+ℤ_}
 use lib.ListN.{length}
 use Rattle.std.specs.declared.option.Option.the-variants.{Some, None}
 use Rattle.messages.specs.Algebra.{Algebra}
-use Rattle.messages.specs.Lists.{entry, find, batch-size, Within}
+use Rattle.messages.specs.Lists.{entry, find, batch-size, most-moving, Within}
 use Rattle.messages.specs.Messages.{effect}
 use Rattle.messages.specs.Quantity.{quantity-algebra}
 use Rattle.messages.specs.Words.{signed}
 use Rattle.messages.specs.declared.entry.Entry.{Entry}
 use Rattle.messages.specs.declared.message.Message.{Message}
 use Rattle.messages.specs.declared.message.Message.the-variants.{Put, Remove, Add}
+use Rattle.tree.specs.Limits.{most-entries}
 use Rattle.tree.specs.Lookup.{lookup, said}
 use Rattle.tree.specs.Nodes.{Node, node, height, next-free}
 use Rattle.tree.specs.Operations.{joined}
@@ -28,8 +29,9 @@ Keys [] = Unit {0}
 Keys (e ∷ h) = (e .key < 2 ^ 32) × Keys h
 
 -- ---- map
--- a query finds what the messages say of the key, and reads at most as many blocks as the tree is high
+-- what stands for the key, and what a query finds, is what the messages say of it; the query reads at most as many blocks as the tree is high
 pub record Query-answer (K : Algebra) (h : List (Entry Message)) (k : ℕ) : Type 0 where
+  pub stands : lookup K (grown K h) k ≡ said K k h
   pub value : query K (grown K h) k .value ≡ said K k h
   pub reads : query K (grown K h) k .reads ≤ height (grown K h)
 
@@ -58,7 +60,7 @@ pub record Page-answer (K : Algebra) (h : List (Entry Message)) (first last : �
   pub next-some : leaf-frame (grown K h) first .high ≤ last → page K (grown K h) first last .next ≡ Some (leaf-frame (grown K h) first .high)
   pub reads : page K (grown K h) first last .reads ≡ height (grown K h)
   -- the leaf's records and the messages of each level above it: at most 2304 in a tree of height 8
-  pub few : length (page K (grown K h) first last .entries) ≤ 256 * (height (grown K h) + 1)
+  pub few : length (page K (grown K h) first last .entries) ≤ most-entries * (height (grown K h) + 1)
 
 abbrev pub Page-law : Type 0
 Page-law = (K : Algebra) (h : List (Entry Message)) → Keys h → (first last : ℕ) → first ≤ last → last < 2 ^ 32 → Page-answer K h first last
@@ -104,8 +106,8 @@ Shape-law = (K : Algebra) (h : List (Entry Message)) → Keys h → Good-tree (g
 abbrev pub Full-batches : Algebra → ℕ → List Node → ℕ → Type 0
 Full-batches K zero a p = Unit {0}
 Full-batches K (suc l) a p =
-    256 < length (node a p .messages)
-    → (batch-size (node (prepared a p) (target a p) .frame .low) (node (prepared a p) (target a p) .frame .high) (node (prepared a p) p .messages) ≡ 16)
+    most-entries < length (node a p .messages)
+    → (batch-size (node (prepared a p) (target a p) .frame .low) (node (prepared a p) (target a p) .frame .high) (node (prepared a p) p .messages) ≡ most-moving)
     × Full-batches K l (after-step K a p) (target a p)
 
 abbrev pub Batch-law : Type 0

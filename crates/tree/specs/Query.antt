@@ -86,12 +86,15 @@ page K a first last = record {
 }
 
 -- ---- a total
--- the entries from first up to and with last, page by page: after a page the next begins at the key that it gives. At most n pages follow the first
+-- what follows a page, if it gives a key to go on from
+abbrev pub following : (ℕ → List (Entry ℕ)) → Option ℕ → List (Entry ℕ)
+following go None = []
+following go (Some k) = go k
+
+-- the entries from first up to and with last, page by page, each from the key that the page before gives. At most n pages follow the first
 abbrev pub entries-from : Algebra → ℕ → List Node → ℕ → ℕ → List (Entry ℕ)
-entries-from K zero a first last = slice first (suc last) (whole-page K a first)
-entries-from K (suc n) a first last =
-    slice first (suc last) (whole-page K a first)
-    ++ cond (ltb last (leaf-frame a first .high)) [] (entries-from K n a (leaf-frame a first .high) last)
+entries-from K zero a first last = page K a first last .entries
+entries-from K (suc n) a first last = page K a first last .entries ++ following (λ k. entries-from K n a k last) (page K a first last .next)
 
 -- each page begins above the one before, so last - first more pages are enough
 abbrev pub entries : Algebra → List Node → ℕ → ℕ → List (Entry ℕ)

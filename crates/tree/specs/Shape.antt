@@ -4,6 +4,7 @@ use mathlib.Core.List.{List, [], _∷_}
 use Prim.Native.Nat.{ℕ, zero, suc, _+_, _^_, _≤_, _<_}
 use lib.ListN.{length, getD}
 use Rattle.messages.specs.Lists.{Within}
+use Rattle.tree.specs.Limits.{most-entries, most-children, fewest-children}
 use Rattle.tree.specs.Nodes.{Frame, Node, node, height}
 
 -- block c is a node of level l, not the root, with the span from low to high
@@ -43,17 +44,17 @@ pub record Tree (a : List Node) : Type 0 where
   pub apart : (b d k : ℕ) → b < length a → d < length a → node a b .frame .level ≡ node a d .frame .level
       → In k (node a b .frame) → In k (node a d .frame) → b ≡ d
 
--- the sizes of the node of block b: at most so many messages and children
-pub record Sized (most-messages most-children b : ℕ) (x : Node) : Type 0 where
-  pub messages-le : length (x .messages) ≤ most-messages
-  pub records-le : length (x .records) ≤ 256
-  pub children-le : length (x .frame .children) ≤ most-children
+-- the sizes of the node of block b, with at most so many messages and children
+pub record Sized (messages children b : ℕ) (x : Node) : Type 0 where
+  pub messages-le : length (x .messages) ≤ messages
+  pub records-le : length (x .records) ≤ most-entries
+  pub children-le : length (x .frame .children) ≤ children
   pub leaf : x .frame .level ≡ 0 → length (x .frame .children) ≡ 0
   pub bare : x .frame .level ≡ 0 → length (x .messages) ≡ 0
-  pub inner : 0 < x .frame .level → 0 < b → 4 ≤ length (x .frame .children)
+  pub inner : 0 < x .frame .level → 0 < b → fewest-children ≤ length (x .frame .children)
 
 abbrev pub All-sized : List Node → Type 0
-All-sized a = (b : ℕ) → b < length a → Sized 256 8 b (node a b)
+All-sized a = (b : ℕ) → b < length a → Sized most-entries most-children b (node a b)
 
 -- ---- what a reader of one node can check
 -- pivots rise strictly between low and high
@@ -74,15 +75,15 @@ pub record Good-node (a : List Node) (b : ℕ) : Type 0 where
   -- the root is no leaf; other levels are given by the parent
   pub root-inner : b ≡ 0 → 0 < node a b .frame .level
   -- at most 256 messages or records, each only where it belongs
-  pub few-messages : length (node a b .messages) ≤ 256
-  pub few-records : length (node a b .records) ≤ 256
+  pub few-messages : length (node a b .messages) ≤ most-entries
+  pub few-records : length (node a b .records) ≤ most-entries
   pub leaf-plain : node a b .frame .level ≡ 0 → (node a b .messages ≡ []) × (node a b .frame .pivots ≡ []) × (node a b .frame .children ≡ [])
   pub inner-plain : 0 < node a b .frame .level → node a b .records ≡ []
   -- 1 to 8 children in a root of level 1, 2 to 8 in a higher one, 4 to 8 in any other inner node
   pub root-children : b ≡ 0 → 1 ≤ length (node a b .frame .children)
   pub high-root-children : b ≡ 0 → 2 ≤ node a b .frame .level → 2 ≤ length (node a b .frame .children)
-  pub inner-children : 0 < b → 0 < node a b .frame .level → 4 ≤ length (node a b .frame .children)
-  pub few-children : length (node a b .frame .children) ≤ 8
+  pub inner-children : 0 < b → 0 < node a b .frame .level → fewest-children ≤ length (node a b .frame .children)
+  pub few-children : length (node a b .frame .children) ≤ most-children
   -- one pivot fewer than children, rising strictly inside the span
   pub pivots-between : 0 < node a b .frame .level → length (node a b .frame .pivots) + 1 ≡ length (node a b .frame .children)
   pub pivots-rise : Rising (node a b .frame .low) (node a b .frame .high) (node a b .frame .pivots)

@@ -8,6 +8,7 @@ use Rattle.messages.specs.Algebra.{Algebra}
 use Rattle.messages.specs.Lists.{pending}
 use Rattle.messages.specs.declared.entry.Entry.{Entry}
 use Rattle.messages.specs.declared.message.Message.{Message}
+use Rattle.tree.specs.Limits.{most-entries, roomy-leaf, most-children}
 use Rattle.tree.specs.Nodes.{Node, node, height}
 use Rattle.tree.specs.Operations.{fresh, joined, split-key, split-child, cut-root, moved}
 
@@ -35,8 +36,8 @@ busiest-child a p = getD (node a p .frame .children) (busiest-place a p) 0
 -- ---- the split, if one is due
 -- a leaf of more than 240 records is full, and an inner node of 8 children
 abbrev pub full-at : ℕ → Node → Bool
-full-at zero x = ltb 240 (length (x .records))
-full-at (suc l) x = eqb (length (x .frame .children)) 8
+full-at zero x = ltb roomy-leaf (length (x .records))
+full-at (suc l) x = eqb (length (x .frame .children)) most-children
 
 abbrev pub is-full : Node → Bool
 is-full x = full-at (x .frame .level) x
@@ -62,11 +63,11 @@ after-step K a p = moved K (prepared a p) p (target a p)
 -- steps from the current node p, of level l, on: while it has more than 256 messages
 abbrev pub run-steps : Algebra → ℕ → List Node → ℕ → List Node
 run-steps K zero a p = a
-run-steps K (suc l) a p = cond (ltb 256 (length (node a p .messages))) (run-steps K l (after-step K a p) (target a p)) a
+run-steps K (suc l) a p = cond (ltb most-entries (length (node a p .messages))) (run-steps K l (after-step K a p) (target a p)) a
 
 -- a root of 8 children is cut
 abbrev pub raised : List Node → List Node
-raised a = cond (eqb (length (node a 0 .frame .children)) 8) (cut-root a) a
+raised a = cond (eqb (length (node a 0 .frame .children)) most-children) (cut-root a) a
 
 abbrev pub update : Algebra → ℕ → Message → List Node → List Node
 update K k m a = run-steps K (height (raised a)) (joined K k m (raised a)) 0
@@ -77,14 +78,14 @@ update K k m a = run-steps K (height (raised a)) (joined K k m (raised a)) 0
 abbrev pub step-writes : Algebra → ℕ → List Node → ℕ → ℕ → ℕ
 step-writes K zero a p own = own
 step-writes K (suc l) a p own =
-    cond (ltb 256 (length (node a p .messages)))
+    cond (ltb most-entries (length (node a p .messages)))
     (cond (is-full (node a (busiest-child a p))) 1 0 + own + step-writes K l (after-step K a p) (target a p) 1)
     own
 
 -- a cut writes both halves
 abbrev pub writes : Algebra → ℕ → Message → List Node → ℕ
 writes K k m a =
-    cond (eqb (length (node a 0 .frame .children)) 8) 2 0 + step-writes K (height (raised a)) (joined K k m (raised a)) 0 0
+    cond (eqb (length (node a 0 .frame .children)) most-children) 2 0 + step-writes K (height (raised a)) (joined K k m (raised a)) 0 0
 
 -- ---- the trees that updates grow
 -- the tree after messages, the newest first, from a fresh one

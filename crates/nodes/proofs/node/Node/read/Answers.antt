@@ -1,7 +1,9 @@
 use mathlib.Core.Path.{_≡_, ap, _∙_}
 use Rattle.nodes.specs.Blocks.{header-of, node-of}
 use Rattle.nodes.specs.Checks.{header-rules, table-rules, node-fault}
+use Rattle.nodes.specs.Views.{view}
 use Rattle.nodes.proofs.Loaded.{bad-header, bad-tables, none-bad, not-ok}
+use Rattle.nodes.proofs.RoundTrips.{node-exact}
 use Rattle.nodes.proofs.node.Node.read.Needs as need
 use Rattle.nodes.proofs.node.Node.read.Needs.{After-read-header}
 
@@ -15,7 +17,7 @@ returns-in-Some c =
     let p = c .args .place .now in
     let bs = c .args .block .now in
     let is = read (need.at·returns-in-Some c .After-read-header) in
-    record { answer = bad-header tt (header-rules p) (λ h. table-rules p h bs) bs (c .read-header .result) is (c .in-Some .rule) (c .in-Some .ensures tt .value); node = not-ok }
+    record { answer = bad-header tt (header-rules p) (λ h. table-rules p h bs) bs (c .read-header .result) is (c .in-Some .rule) (c .in-Some .ensures tt .value); node = not-ok; exact = not-ok }
 
 pub returns-in-Some-load : need.returns-in-Some-load
 unfolding node-fault
@@ -26,6 +28,7 @@ returns-in-Some-load c =
     record {
       answer = bad-tables tt (header-rules p) (λ h. table-rules p h bs) bs (c .read-header .result) is (c .in-rest .ensures tt .value) (c .in-Some-load .rule) (c .in-Some-load .ensures tt .fault);
       node = not-ok;
+      exact = not-ok;
     }
 
 pub returns-in-None : need.returns-in-None
@@ -34,7 +37,6 @@ returns-in-None c =
     let p = c .args .place .now in
     let bs = c .args .block .now in
     let is = read (need.at·returns-in-None c .After-read-header) in
-    record {
-      answer = none-bad tt (header-rules p) (λ h. table-rules p h bs) bs (c .read-header .result) is (c .in-rest .ensures tt .value) (c .in-None .ensures tt .fault);
-      node = λ e. c .load .ensures .node ∙ ap (λ h. node-of p h bs) is;
-    }
+    let answer = none-bad tt (header-rules p) (λ h. table-rules p h bs) bs (c .read-header .result) is (c .in-rest .ensures tt .value) (c .in-None .ensures tt .fault) in
+    let node = c .load .ensures .node ∙ ap (λ h. node-of p h bs) is in
+    record { answer = answer; node = λ e. node; exact = λ e. node-exact p bs (view (c .load .last .self)) (c .told-block) (c .fits-block) answer node }

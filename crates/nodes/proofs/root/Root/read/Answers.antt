@@ -3,9 +3,10 @@ use Rattle.std.specs.declared.result.Result.the-variants.{Ok}
 use Rattle.nodes.specs.Blocks.{header-of, node-of}
 use Rattle.nodes.specs.Checks.{root-header-rules, root-place, table-rules, root-fault}
 use Rattle.nodes.specs.Marks.{mark-of}
-use Rattle.nodes.specs.Roots.{root-by}
+use Rattle.nodes.specs.Roots.{root-by, root-of}
 use Rattle.nodes.specs.Rules.{first-broken}
 use Rattle.nodes.proofs.Loaded.{bad-header, bad-tables, none-bad, not-ok}
+use Rattle.nodes.proofs.RoundTrips.{root-exact}
 use Rattle.nodes.proofs.root.Root.read.Needs as need
 use Rattle.nodes.proofs.root.Root.read.Needs.{After-read-header}
 
@@ -18,7 +19,7 @@ unfolding root-fault
 returns-in-Some c =
     let bs = c .args .block .now in
     let is = read (need.at·returns-in-Some c .After-read-header) in
-    record { answer = bad-header (mark-of (header-of bs .mark)) (root-header-rules (c .args .size)) (λ h. table-rules (root-place h) h bs) bs (c .read-header .result) is (c .in-Some .rule) (c .in-Some .ensures tt .value); root = not-ok }
+    record { answer = bad-header (mark-of (header-of bs .mark)) (root-header-rules (c .args .size)) (λ h. table-rules (root-place h) h bs) bs (c .read-header .result) is (c .in-Some .rule) (c .in-Some .ensures tt .value); root = not-ok; exact = tt }
 
 pub returns-in-Some-load : need.returns-in-Some-load
 unfolding root-fault
@@ -31,6 +32,7 @@ returns-in-Some-load c =
           bad-tables (mark-of (header-of bs .mark)) (root-header-rules (c .args .size)) (λ h. table-rules (root-place h) h bs) bs h is (c .in-rest .ensures tt .value) (c .in-Some-load .rule)
           (c .in-Some-load .ensures tt .fault ∙ ap (λ p. first-broken (table-rules p h bs)) (c .root-place .ensures));
       root = not-ok;
+      exact = tt;
     }
 
 pub returns-in-None : need.returns-in-None
@@ -40,9 +42,10 @@ returns-in-None c =
     let h = c .read-header .result in
     let is = read (need.at·returns-in-None c .After-read-header) in
     let node = c .load .ensures .node ∙ ap (λ p. node-of p h bs) (c .root-place .ensures) in
-    record {
-      answer =
-          ap Ok (c .root-mark .ensures ∙ ap (λ x. mark-of (x .mark)) is)
-          ∙ none-bad (mark-of (header-of bs .mark)) (root-header-rules (c .args .size)) (λ h. table-rules (root-place h) h bs) bs h is (c .in-rest .ensures tt .value) (c .in-None .ensures tt .fault ∙ ap (λ p. first-broken (table-rules p h bs)) (c .root-place .ensures));
-      root = λ e. (λ i. record { node = node i; kind = h .kind; next-free = h .«next_free»; updates = h .updates; tree-writes = h .«tree_writes» }) ∙ ap (λ x. root-by x bs) is;
-    }
+    let mark = c .root-mark .ensures ∙ ap (λ x. mark-of (x .mark)) is in
+    let answer =
+    ap Ok mark
+    ∙ none-bad (mark-of (header-of bs .mark)) (root-header-rules (c .args .size)) (λ h. table-rules (root-place h) h bs) bs h is (c .in-rest .ensures tt .value)
+    (c .in-None .ensures tt .fault ∙ ap (λ p. first-broken (table-rules p h bs)) (c .root-place .ensures)) in
+    let root : _ ≡ root-of bs = (λ i. record { node = node i; kind = h .kind; next-free = h .«next_free»; updates = h .updates; tree-writes = h .«tree_writes» }) ∙ ap (λ x. root-by x bs) is in
+    record { answer = answer; root = λ e. root; exact = root-exact (c .args .size) bs (c .root-mark .result) _ (c .told-block) (c .fits-block) answer mark root }
