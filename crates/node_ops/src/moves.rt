@@ -79,7 +79,7 @@ pub fn move_batch<K: Kind>(parent: &mut Node, child: &mut Node, batch: &mut Vec<
 
 // A new child in block `block`, with the keys from `key` on, comes in behind the child at place `j`.
 pub fn add_child(node: &mut Node, j: usize, key: u32, block: u32)
-    requires { ⌜ (j < vec-len (now node .children)) × (vec-len (now node .children) ≤ 7) ⌝ ∗ ⌜ vec-len (now node .children) ≡ vec-len (now node .pivots) + 1 ⌝ ∗ ⌜ 0 < now node .level ⌝ }
+    requires { ⌜ (j < vec-len (now node .children)) × (vec-len (now node .children) ≤ 7) ⌝ ∗ ⌜ 0 < now node .level ⌝ }
     ensures value { λ _. ⌜ view (now (node .exit)) ≡ with-new-child j key block (view (now (node .entry))) ⌝ }
     ensures level { λ _. ⌜ now (node .exit) .level ≡ now (node .entry) .level ⌝ }
     ensures children { λ _. ⌜ (vec-len (now (node .exit) .children) ≡ vec-len (now (node .entry) .children) + 1) × (vec-len (now (node .exit) .pivots) ≡ vec-len (now (node .entry) .pivots) + 1) ⌝ }

@@ -2,6 +2,7 @@
 ghost use mathlib.Core.Path.{_≡_};
 ghost use mathlib.Core.Bool.{true};
 ghost use Prim.Native.Nat.{_≤_, _<_};
+ghost use Rattle.std.specs.Of.Vec.{vec-len};
 ghost use Rattle.std.specs.Results.{isOk};
 ghost use mathlib.Core.List.{[], _∷_};
 ghost use Rattle.nodes.specs.Blocks.{header-of, node-block, node-of};
@@ -62,6 +63,7 @@ impl Node {
         requires { ⌜ now place .level ≡ 0 ⌝ ∗ ⌜ now header .count ≤ 256 ⌝ }
         ensures fault { λ r. ⌜ r ≡ first-broken (leaf-rules (now (place .entry)) (now (header .entry)) (now (block .entry))) ⌝ }
         ensures node { λ _. ⌜ view (now (self .exit)) ≡ node-of (now (place .entry)) (now (header .entry)) (now (block .entry)) ⌝ }
+        ensures sizes { λ _. ⌜ (now (self .exit) .level ≡ now (place .entry) .level) × (vec-len (now (self .exit) .messages) ≤ 256) ⌝ }
     {
         self.level = 0;
         self.low = place.low;
@@ -96,6 +98,7 @@ impl Node {
         requires { ⌜ 0 < now place .level ⌝ ∗ ⌜ now header .count ≤ 256 ⌝ ∗ ⌜ 1 ≤ now header .children ⌝ ∗ ⌜ now header .children ≤ 8 ⌝ }
         ensures fault { λ r. ⌜ r ≡ first-broken (inner-rules (now (place .entry)) (now (header .entry)) (now (block .entry))) ⌝ }
         ensures node { λ _. ⌜ view (now (self .exit)) ≡ node-of (now (place .entry)) (now (header .entry)) (now (block .entry)) ⌝ }
+        ensures sizes { λ _. ⌜ (now (self .exit) .level ≡ now (place .entry) .level) × (vec-len (now (self .exit) .messages) ≤ 256) ⌝ }
     {
         self.level = place.level;
         self.low = place.low;
@@ -129,6 +132,7 @@ impl Node {
         requires { ⌜ now header .count ≤ 256 ⌝ ∗ ⌜ (0 < now place .level → (1 ≤ now header .children) × (now header .children ≤ 8)) ⌝ }
         ensures fault { λ r. ⌜ r ≡ first-broken (table-rules (now (place .entry)) (now (header .entry)) (now (block .entry))) ⌝ }
         ensures node { λ _. ⌜ view (now (self .exit)) ≡ node-of (now (place .entry)) (now (header .entry)) (now (block .entry)) ⌝ }
+        ensures sizes { λ _. ⌜ (now (self .exit) .level ≡ now (place .entry) .level) × (vec-len (now (self .exit) .messages) ≤ 256) ⌝ }
     {
         if place.level == 0 {
             self.load_leaf(place, header, block)
@@ -142,6 +146,7 @@ impl Node {
         ensures answer { λ r. ⌜ r ≡ verdict tt (node-fault (now (place .entry)) (now (block .entry))) ⌝ }
         ensures node { λ r. ⌜ (isOk r ≡ true → view (now (self .exit)) ≡ node-of (now (place .entry)) (header-of (now (block .entry))) (now (block .entry))) ⌝ }
         ensures exact { λ r. ⌜ (isOk r ≡ true → now (block .entry) ≡ node-block (now (place .entry) .kind) (view (now (self .exit)))) ⌝ }
+        ensures sizes { λ r. ⌜ (isOk r ≡ true → (now (self .exit) .level ≡ now (place .entry) .level) × (vec-len (now (self .exit) .messages) ≤ 256)) ⌝ }
     {
         let header = Header::read(block);
         if let Some(rule) = header.broken_rule(place) {

@@ -19,8 +19,8 @@ returns c =
       value = λ i. record {
         frame = record { level = x .level; low = x .low; high = x .high; pivots = pivots i; children = children i };
         messages = vec-items (x .messages);
-        records = vec-items (x .records)
+        records = vec-items (x .records);
       };
       level = search needs;
-      children = search needs
+      children = search needs;
     }

@@ -1,3 +1,4 @@
+use borrow.Author.Needs.{needs}
 use mathlib.Core.Path.{_≡_, _∙_}
 use Prim.Native.Nat.{_-_}
 use native.Mathlib.Omega.{arith}
@@ -15,6 +16,7 @@ returns c =
     let pivots = read-from-none (vec-items (c .clear .last .self)) (vec-items (c .read-table-pivots-left .last .values)) (pivots-of h bs) (c .clear .ensures .items) (c .read-table-pivots-left .ensures .values) in
     let children = read-from-none (vec-items (c .clear-2 .last .self)) (vec-items (c .read-table-children-left .last .values)) (children-of h bs) (c .clear-2 .ensures .items) (c .read-table-children-left .ensures .values) in
     record {
+      sizes = search needs;
       fault =
           inner-fault p h bs (c .first-broken-table .result) (c .are-rising .result) (c .are-below .result) (pass .result .«in_order») (pass .result .exact) (c .has-unused-zero .result) (c .is-zero .result) (c .is-zero-2 .result)
           (c .deref .result .now) (c .deref-2 .result .now) (c .read-table-pivots-left .result .now) (c .read-table-children-left .result .now) (c .are-rising .ensures) (c .deref .ensures .value ∙ pivots) (c .are-below .ensures) (c .deref-2 .ensures .value ∙ children)

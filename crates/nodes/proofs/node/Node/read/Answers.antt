@@ -17,7 +17,7 @@ returns-in-Some c =
     let p = c .args .place .now in
     let bs = c .args .block .now in
     let is = read (need.at·returns-in-Some c .After-read-header) in
-    record { answer = bad-header tt (header-rules p) (λ h. table-rules p h bs) bs (c .read-header .result) is (c .in-Some .rule) (c .in-Some .ensures tt .value); node = not-ok; exact = not-ok }
+    record { answer = bad-header tt (header-rules p) (λ h. table-rules p h bs) bs (c .read-header .result) is (c .in-Some .rule) (c .in-Some .ensures tt .value); node = not-ok; exact = not-ok; sizes = not-ok }
 
 pub returns-in-Some-load : need.returns-in-Some-load
 unfolding node-fault
@@ -28,6 +28,7 @@ returns-in-Some-load c =
     record {
       answer = bad-tables tt (header-rules p) (λ h. table-rules p h bs) bs (c .read-header .result) is (c .in-rest .ensures tt .value) (c .in-Some-load .rule) (c .in-Some-load .ensures tt .fault);
       node = not-ok;
+      sizes = not-ok;
       exact = not-ok;
     }
 
@@ -39,4 +40,4 @@ returns-in-None c =
     let is = read (need.at·returns-in-None c .After-read-header) in
     let answer = none-bad tt (header-rules p) (λ h. table-rules p h bs) bs (c .read-header .result) is (c .in-rest .ensures tt .value) (c .in-None .ensures tt .fault) in
     let node = c .load .ensures .node ∙ ap (λ h. node-of p h bs) is in
-    record { answer = answer; node = λ e. node; exact = λ e. node-exact p bs (view (c .load .last .self)) (c .told-block) (c .fits-block) answer node }
+    record { answer = answer; node = λ e. node; exact = λ e. node-exact p bs (view (c .load .last .self)) (c .told-block) (c .fits-block) answer node; sizes = λ e. c .load .ensures .sizes }

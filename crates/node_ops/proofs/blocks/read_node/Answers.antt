@@ -1,0 +1,25 @@
+use borrow.Author.Needs.{needs}
+use mathlib.Core.Path.{_≡_, refl, ap, _∙_}
+use Prim.Native.Nat.{ℕ}
+use Rattle.std.specs.declared.option.Option.{Option}
+use Rattle.std.specs.declared.option.Option.the-variants.{Some, None}
+use Rattle.std.specs.declared.result.Result.{Result}
+use Rattle.nodes.specs.Checks.{node-fault, verdict}
+use Rattle.nodes.specs.declared.rule.Rule.{Rule}
+use Rattle.node_ops.specs.CodeOf.{code-of, place-at, number-of-rule, number-of-error}
+use Rattle.node_ops.proofs.blocks.read_node.Needs as need
+
+verdict-number : (u : Unit {0}) (o : Option Rule) → number-of-error (verdict u o) ≡ number-of-rule o
+verdict-number u None = refl
+verdict-number u (Some rule) = refl
+
+pub returns : need.returns
+unfolding code-of
+returns g c =
+    let bs = c .args .block .now in
+    let fault : ℕ → Option Rule = λ kind. node-fault (place-at (c .args .level) (c .args .low) (c .args .high) kind (c .args .next-free)) bs in
+    record {
+      answer = ap number-of-error (c .read .ensures .answer) ∙ verdict-number tt (fault (c .number .result)) ∙ ap (λ kind. number-of-rule (fault kind)) (c .number .ensures);
+      node = c .read .ensures .node;
+      sizes = c .read .ensures .sizes;
+    }

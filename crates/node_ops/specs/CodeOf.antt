@@ -1,0 +1,40 @@
+-- How the nodes of a store of a kind stand in blocks, as the plan of an update sees it.
+use mathlib.Core.Bool.{cond}
+use mathlib.Core.List.{List, []}
+use Prim.Native.Nat.{ℕ}
+use lib.Dec.{eqb}
+use Rattle.std.specs.declared.option.Option.{Option}
+use Rattle.std.specs.declared.option.Option.the-variants.{Some, None}
+use Rattle.std.specs.declared.result.Result.{Result}
+use Rattle.std.specs.declared.result.Result.the-variants.{Ok, Err}
+use Rattle.messages.specs.Algebra.{Algebra}
+use Rattle.nodes.specs.Blocks.{node-block, header-of, pivots-of, children-of, messages-of, records-of}
+use Rattle.nodes.specs.Checks.{node-fault}
+use Rattle.nodes.specs.Rules.{rule-number}
+use Rattle.nodes.specs.declared.place.Place.{Place}
+use Rattle.nodes.specs.declared.rule.Rule.{Rule}
+use Rattle.plan.specs.Codes.{Code}
+
+abbrev pub place-at : ℕ → ℕ → ℕ → ℕ → ℕ → Place
+place-at level low high kind next = record { level = level; low = low; high = high; kind = kind; «next_free» = next }
+
+-- the number of a rule, if one is broken
+abbrev pub number-of-rule : Option Rule → Option ℕ
+number-of-rule None = None
+number-of-rule (Some rule) = Some (rule-number rule)
+
+-- the same of the result of a reading
+abbrev pub number-of-error : {T : Type 0} → Result T Rule → Option ℕ
+number-of-error (Ok _) = None
+number-of-error (Err rule) = Some (rule-number rule)
+
+unfoldable pub code-of : Algebra → Code
+code-of K = record {
+  algebra = K;
+  encode = node-block (K .number);
+  fault = λ level low high next bs. number-of-rule (node-fault (place-at level low high (K .number) next) bs);
+  pivots = λ level bs. cond (eqb level 0) [] (pivots-of (header-of bs) bs);
+  children = λ level bs. cond (eqb level 0) [] (children-of (header-of bs) bs);
+  messages = λ level bs. cond (eqb level 0) [] (messages-of (header-of bs) bs);
+  records = λ level bs. cond (eqb level 0) (records-of (header-of bs) bs) [];
+}
