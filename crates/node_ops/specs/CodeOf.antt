@@ -8,12 +8,15 @@ use Rattle.std.specs.declared.option.Option.the-variants.{Some, None}
 use Rattle.std.specs.declared.result.Result.{Result}
 use Rattle.std.specs.declared.result.Result.the-variants.{Ok, Err}
 use Rattle.messages.specs.Algebra.{Algebra}
+use Rattle.messages.specs.declared.entry.Entry.{Entry}
+use Rattle.messages.specs.declared.message.Message.{Message}
 use Rattle.nodes.specs.Blocks.{node-block, header-of, pivots-of, children-of, messages-of, records-of}
 use Rattle.nodes.specs.Checks.{node-fault}
 use Rattle.nodes.specs.Rules.{rule-number}
 use Rattle.nodes.specs.declared.place.Place.{Place}
 use Rattle.nodes.specs.declared.rule.Rule.{Rule}
 use Rattle.plan.specs.Codes.{Code}
+use Rattle.tree.specs.Nodes.{Node}
 
 abbrev pub place-at : ℕ → ℕ → ℕ → ℕ → ℕ → Place
 place-at level low high kind next = record { level = level; low = low; high = high; kind = kind; «next_free» = next }
@@ -28,13 +31,33 @@ abbrev pub number-of-error : {T : Type 0} → Result T Rule → Option ℕ
 number-of-error (Ok _) = None
 number-of-error (Err rule) = Some (rule-number rule)
 
-unfoldable pub code-of : Algebra → Code
+-- what the store of a kind writes for a node, which rule a block breaks first, and what its tables say: shut, so that proofs about the
+-- steps do not look into blocks
+unfoldable pub encode-of : Algebra → Node → List ℕ
+encode-of K x = node-block (K .number) x
+
+unfoldable pub fault-of : Algebra → ℕ → ℕ → ℕ → ℕ → List ℕ → Option ℕ
+fault-of K level low high next bs = number-of-rule (node-fault (place-at level low high (K .number) next) bs)
+
+unfoldable pub pivots-at : ℕ → List ℕ → List ℕ
+pivots-at level bs = cond (eqb level 0) [] (pivots-of (header-of bs) bs)
+
+unfoldable pub children-at : ℕ → List ℕ → List ℕ
+children-at level bs = cond (eqb level 0) [] (children-of (header-of bs) bs)
+
+unfoldable pub messages-at : ℕ → List ℕ → List (Entry Message)
+messages-at level bs = cond (eqb level 0) [] (messages-of (header-of bs) bs)
+
+unfoldable pub records-at : ℕ → List ℕ → List (Entry ℕ)
+records-at level bs = cond (eqb level 0) (records-of (header-of bs) bs) []
+
+abbrev pub code-of : Algebra → Code
 code-of K = record {
   algebra = K;
-  encode = node-block (K .number);
-  fault = λ level low high next bs. number-of-rule (node-fault (place-at level low high (K .number) next) bs);
-  pivots = λ level bs. cond (eqb level 0) [] (pivots-of (header-of bs) bs);
-  children = λ level bs. cond (eqb level 0) [] (children-of (header-of bs) bs);
-  messages = λ level bs. cond (eqb level 0) [] (messages-of (header-of bs) bs);
-  records = λ level bs. cond (eqb level 0) (records-of (header-of bs) bs) [];
+  encode = encode-of K;
+  fault = fault-of K;
+  pivots = pivots-at;
+  children = children-at;
+  messages = messages-at;
+  records = records-at;
 }

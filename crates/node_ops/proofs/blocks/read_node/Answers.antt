@@ -6,7 +6,7 @@ use Rattle.std.specs.declared.option.Option.the-variants.{Some, None}
 use Rattle.std.specs.declared.result.Result.{Result}
 use Rattle.nodes.specs.Checks.{node-fault, verdict}
 use Rattle.nodes.specs.declared.rule.Rule.{Rule}
-use Rattle.node_ops.specs.CodeOf.{code-of, place-at, number-of-rule, number-of-error}
+use Rattle.node_ops.specs.CodeOf.{fault-of, pivots-at, children-at, messages-at, records-at, place-at, number-of-rule, number-of-error}
 use Rattle.node_ops.proofs.blocks.read_node.Needs as need
 
 verdict-number : (u : Unit {0}) (o : Option Rule) → number-of-error (verdict u o) ≡ number-of-rule o
@@ -14,7 +14,7 @@ verdict-number u None = refl
 verdict-number u (Some rule) = refl
 
 pub returns : need.returns
-unfolding code-of
+unfolding fault-of pivots-at children-at messages-at records-at
 returns g c =
     let bs = c .args .block .now in
     let fault : ℕ → Option Rule = λ kind. node-fault (place-at (c .args .level) (c .args .low) (c .args .high) kind (c .args .next-free)) bs in

@@ -1,0 +1,4 @@
+// The steps of updates and queries on a device.
+pub mod access;
+pub mod cause;
+pub mod query;
