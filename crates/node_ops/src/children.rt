@@ -6,7 +6,7 @@ ghost use Rattle.std.specs.Of.Vec.{vec-len};
 ghost use Rattle.nodes.specs.Views.{view};
 ghost use Rattle.plan.specs.Queries.{place-among};
 ghost use Rattle.plan.specs.Steps.{child-block, child-low, child-high, pending-at, busiest};
-use messages::list::place_of;
+use crate::pending::pending_in;
 use nodes::node::Node;
 
 // The number at a place, 0 past the last.
@@ -52,8 +52,11 @@ pub fn child_high(node: &Node, j: usize) -> u64
 fn pending_at(node: &Node, j: usize) -> usize
     ensures { λ r. ⌜ r ≡ pending-at (view (now (node .entry))) j ⌝ }
 {
-    let low = u64::from(child_low(node, j));
-    place_of(&node.messages, child_high(node, j)).saturating_sub(place_of(&node.messages, low))
+    pending_in(
+        &node.messages,
+        u64::from(child_low(node, j)),
+        child_high(node, j),
+    )
 }
 
 // The place of the child with most pending messages, the lowest at a tie.

@@ -2,4 +2,4 @@
 pub mod blocks;
 pub mod children;
 pub mod moves;
-pub mod sizes;
+pub mod pending;

@@ -1,0 +1,3 @@
+// Nodes in memory that are split in two: a leaf, an inner node, the root.
+pub mod halves;
+pub mod tail;
