@@ -61,7 +61,8 @@ fn pending_at(node: &Node, j: usize) -> usize
 
 // The place of the child with most pending messages, the lowest at a tie.
 pub fn busiest_child(node: &Node) -> usize
-    ensures { λ r. ⌜ r ≡ busiest (view (now (node .entry))) ⌝ }
+    ensures value { λ r. ⌜ r ≡ busiest (view (now (node .entry))) ⌝ }
+    ensures within { λ r. ⌜ (0 < vec-len (now (node .entry) .children) → r < vec-len (now (node .entry) .children)) ⌝ }
 {
     let mut j = node.children.len();
     let mut best = j;

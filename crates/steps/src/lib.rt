@@ -4,4 +4,5 @@ pub mod cause;
 pub mod progress;
 pub mod query;
 pub mod scratch;
+pub mod sink;
 pub mod step;

@@ -65,3 +65,33 @@ fn split_full_child<D: Device, K: Kind>(
     progress.tree_writes = progress.tree_writes.wrapping_add(1);
     Ok(at)
 }
+
+// Makes a step from `parent`. The child that took the batch is in `child` afterwards; gives its block.
+pub fn make_step<D: Device, K: Kind>(
+    device: &mut D,
+    scratch: &mut Scratch,
+    progress: &mut Progress,
+    parent: &mut Node,
+    child: &mut Node,
+) -> Result<u32, Cause<D::Fault>>
+    requires { ⌜ 1 ≤ D·Device .meaning (now device) .allowance ⌝ ∗ ⌜ (0 < now parent .level) × (vec-len (now parent .children) ≤ 7) ⌝ ∗ ⌜ now progress .«next_free» < 65536 ⌝ }
+    ensures value { λ r. ⌜ tried (D·Device .number) r (image (D·Device .meaning (now (device .exit)))) (λ to. record { image = image (D·Device .meaning (now (device .exit))); next = now (progress .exit) .«next_free»; writes = now (progress .exit) .«tree_writes»; parent = view (now (parent .exit)); child = view (now (child .exit)); block = to }) ≡ step (code-of (K·Kind .algebra)) (image (D·Device .meaning (now (device .entry)))) (now (progress .entry) .«next_free») (now (progress .entry) .«tree_writes») (view (now (parent .entry))) ⌝ }
+    ensures lowered { λ _. ⌜ Lowered (D·Device .meaning (now (device .entry)) .allowance) (D·Device .meaning (now (device .exit)) .allowance) ⌝ }
+    ensures inner { λ r. ⌜ (isOk r ≡ true → 0 < now (child .exit) .level → vec-len (now (child .exit) .children) ≤ 7) ⌝ }
+    ensures level { λ r. ⌜ (isOk r ≡ true → now (child .exit) .level + 1 ≡ now (parent .entry) .level) ⌝ }
+    ensures parent { λ _. ⌜ (now (parent .exit) .level ≡ now (parent .entry) .level) × (now (progress .exit) .«next_free» ≤ now (progress .entry) .«next_free» + 1) ⌝ }
+{
+    let j = busiest_child(parent);
+    let at = child_block(parent, j);
+    fetch_child::<D, K>(
+        device,
+        &mut scratch.block,
+        progress.next_free,
+        parent,
+        j,
+        child,
+    )?;
+    let to = split_full_child::<D, K>(device, scratch, progress, parent, j, child, at)?;
+    move_batch::<K>(parent, child, &mut scratch.batch);
+    Ok(to)
+}
