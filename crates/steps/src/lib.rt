@@ -6,3 +6,4 @@ pub mod query;
 pub mod scratch;
 pub mod sink;
 pub mod step;
+pub mod update;
