@@ -24,6 +24,12 @@ from-more f n j h = let e : n - j ≡ suc (n - (j + 1)) = omega arith in ap (λ 
 abbrev pub Best : (ℕ → ℕ) → ℕ → ℕ → ℕ → ℕ → Type 0
 Best f n j best most = (j ≤ n) × (best ≡ j + largest (from f n j)) × (most ≡ getD (from f n j) (largest (from f n j)) 0) × (j < n → best < n)
 
+-- no number is left past the last
+pub best-none : (f : ℕ → ℕ) (n j : ℕ) → j ≡ n → Best f n j j 0
+best-none f n j last =
+    let gone : n - j ≡ 0 = omega arith in
+    rw gone (omega arith, omega arith, refl, λ inside. inside)
+
 -- the number at place j is no smaller than those after it
 pub best-here : (f : ℕ → ℕ) (n j k best most p : ℕ) → k ≡ j + 1 → Best f n k best most → p ≡ f j → most ≤ p → Best f n j j p
 best-here f n j k best most p next b is le =
@@ -41,3 +47,10 @@ best-after f n j k best most p next b is lt =
     let i = rw next at (b .1) in
     let t : leb (getD (from f n (j + 1)) (largest (from f n (j + 1))) 0) (f j) ≡ false = grind (arith, tells) in
     rw (from-more f n j (omega arith), t) (omega arith, omega arith, e, λ inside. below)
+
+-- all numbers are passed
+pub best-all : (f : ℕ → ℕ) (n m j best most : ℕ) → j ≡ 0 → n ≡ m → Best f n j best most → best ≡ largest (map f (counting 0 m))
+best-all f n m j best most first same b =
+    let all : n - j ≡ m = omega arith in
+    let is : best ≡ 0 + largest (map f (counting 0 m)) = b .1 ∙ (λ i. first i + largest (map f (counting (first i) (all i)))) in
+    omega (arith, is)

@@ -6,7 +6,8 @@ ghost use Rattle.std.specs.Of.Vec.{vec-len};
 ghost use Rattle.nodes.specs.Views.{view};
 ghost use Rattle.plan.specs.Queries.{place-among};
 ghost use Rattle.plan.specs.Steps.{child-block, child-low, child-high, pending-at, busiest};
-use crate::pending::pending_in;
+ghost use Rattle.node_ops.specs.Spans.{Spans-all-keys};
+use messages::list::place_of;
 use nodes::node::Node;
 
 // The number at a place, 0 past the last.
@@ -48,32 +49,27 @@ pub fn child_high(node: &Node, j: usize) -> u64
     }
 }
 
-// How many messages are pending for the child at place `j`.
-fn pending_at(node: &Node, j: usize) -> usize
-    ensures { λ r. ⌜ r ≡ pending-at (view (now (node .entry))) j ⌝ }
-{
-    pending_in(
-        &node.messages,
-        u64::from(child_low(node, j)),
-        child_high(node, j),
-    )
-}
-
-// The place of the child with most pending messages, the lowest at a tie.
+// The place of the child with most pending messages, the lowest at a tie. The children are passed from the last to the first, so that
+// each bound between them is looked up once. Where the span is that of all keys, a message is pending for the child that is found.
 pub fn busiest_child(node: &Node) -> usize
+    requires { ⌜ 0 < now node .level ⌝ }
     ensures value { λ r. ⌜ r ≡ busiest (view (now (node .entry))) ⌝ }
-    ensures within { λ r. ⌜ (0 < vec-len (now (node .entry) .children) → r < vec-len (now (node .entry) .children)) ⌝ }
+    ensures within { λ r. ⌜ r < vec-len (now (node .entry) .children) ⌝ }
+    ensures some { λ r. ⌜ (Spans-all-keys (view (now (node .entry))) → 0 < vec-len (now (node .entry) .messages) → 0 < pending-at (view (now (node .entry))) r) ⌝ }
 {
     let mut j = node.children.len();
     let mut best = j;
     let mut most = 0;
+    let mut upper = place_of(&node.messages, node.high);
     'children: while j > 0 {
         j -= 1;
-        let pending = pending_at(node, j);
+        let lower = place_of(&node.messages, u64::from(child_low(node, j)));
+        let pending = upper.saturating_sub(lower);
         if most <= pending {
             best = j;
             most = pending;
         }
+        upper = lower;
     }
     best
 }
