@@ -1,7 +1,7 @@
 -- The halves of a node, from their parts.
-use mathlib.Core.Path.{_≡_, refl, sym, ap, _∙_}
+use mathlib.Core.Path.{_≡_, sym, ap, _∙_}
 use mathlib.Core.List.{List, [], _∷_}
-use Prim.Native.Nat.{ℕ, zero, suc, _+_, _/_, _<_}
+use Prim.Native.Nat.{ℕ, zero, suc, _<_}
 use native.Mathlib.Omega.{arith}
 use lib.ListN.{length, take, drop, getD}
 use Rattle.std.proofs.shelf.Lists.{take-take}
@@ -9,7 +9,7 @@ use Rattle.messages.specs.declared.entry.Entry.{Entry}
 use Rattle.messages.specs.declared.message.Message.{Message}
 use Rattle.messages.specs.Lists.{below}
 use Rattle.tree.specs.Nodes.{Node}
-use Rattle.tree.specs.Operations.{lower-inner, upper-inner, lower-leaf, upper-leaf, key-at, new-root}
+use Rattle.tree.specs.Operations.{lower-inner, upper-inner, lower-leaf, upper-leaf, key-at}
 
 -- the key of the record that stands at a place
 pub key-there : (xs : List (Entry ℕ)) (i : ℕ) (x : Entry ℕ) → i < length xs → x ≡ getD xs i x → x .key ≡ key-at i xs
