@@ -1,13 +1,13 @@
 // Reading a table of entries, with its rules, in one pass.
 ghost use mathlib.Core.Path.{_≡_};
-ghost use mathlib.Core.Bool.{Bool, true, _&&_};
+ghost use mathlib.Core.Bool.{Bool, true};
 ghost use mathlib.Core.List.{List, _++_};
 ghost use Prim.Native.Nat.{ℕ, _+_, _*_, _≤_};
-ghost use lib.Dec.{leb, ltb};
 ghost use lib.ListN.{length};
 ghost use Rattle.std.specs.Of.Vec.{vec-items, vec-len, vec-cap};
 ghost use Rattle.rows.specs.Tables.{values-of};
 ghost use Rattle.nodes.specs.Keys.{known-row, exact-row, rows-in-order, rows-exact};
+use crate::numbers::is_inside;
 use messages::entry::Entry;
 use messages::message::Message;
 use rows::bytes::is_zero;
@@ -83,13 +83,6 @@ pub impl KeyedRow for Entry<Message> as MessageKeyed {
     }
 }
 
-// Whether a key may come where the smallest is `low` and all are below `high`.
-fn is_next(key: u64, low: u64, high: u64) -> bool
-    ensures { λ r. ⌜ r ≡ (leb low key && ltb key high) ⌝ }
-{
-    low <= key && key < high
-}
-
 // What a pass over a table of entries found.
 #[derive(Clone, Copy, PartialEq, Eq, Debug)]
 pub struct TablePass {
@@ -121,7 +114,7 @@ pub fn read_entries<T: KeyedRow>(
     for _row in 0..count {
         let entry = T::read(rest);
         let key = u64::from(entry.key());
-        in_order = in_order & is_next(key, next, high) & T::is_known(rest);
+        in_order = in_order & is_inside(key, next, high) & T::is_known(rest);
         exact = exact & T::is_exact(rest);
         next = key + 1;
         entries.push_reserved(entry);

@@ -1,6 +1,7 @@
 // The rules on a block's header.
 ghost use mathlib.Core.Path.{_≡_};
 ghost use Prim.Native.Nat.{_≤_, _<_};
+ghost use lib.Dec.{leb};
 ghost use Rattle.std.specs.Options.{Cases};
 ghost use Rattle.nodes.specs.Checks.{header-rules, root-header-rules, header-zero, unused-zero};
 ghost use Rattle.nodes.specs.Rules.{first-broken};
@@ -15,6 +16,13 @@ use crate::place::Place;
 use crate::rule::Rule;
 
 impl Header {
+    // Whether there are no more messages or records than a block may hold.
+    fn has_few_entries(&self) -> bool
+        ensures { λ r. ⌜ r ≡ leb (now (self .entry) .count) 256 ⌝ }
+    {
+        self.count as usize <= MOST_ENTRIES
+    }
+
     // Whether bytes 8 to 31 are zero.
     fn is_zero_from_8(&self) -> bool
         ensures { λ r. ⌜ r ≡ header-zero (now (self .entry)) ⌝ }
@@ -40,7 +48,7 @@ impl Header {
         if self.mark != 0 {
             return Some(Rule::Mark);
         }
-        if self.count as usize > MOST_ENTRIES {
+        if !self.has_few_entries() {
             return Some(Rule::Count);
         }
         if place.level == 0 {
@@ -70,7 +78,7 @@ impl Header {
         if self.mark < 1 || self.mark > 2 {
             return Some(Rule::Mark);
         }
-        if self.count as usize > MOST_ENTRIES {
+        if !self.has_few_entries() {
             return Some(Rule::Count);
         }
         let least = if self.level == 1 { 1 } else { 2 };

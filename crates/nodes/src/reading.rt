@@ -16,8 +16,8 @@ use crate::header::Header;
 use crate::header::HeaderRow;
 use crate::limits::BLOCK_SIZE;
 use crate::node::Node;
-use crate::numbers::are_below;
 use crate::numbers::are_rising;
+use crate::numbers::are_taken;
 use crate::place::Place;
 use crate::rule::Rule;
 use rows::bytes::is_zero;
@@ -117,7 +117,7 @@ impl Node {
         );
         first_broken_table(
             are_rising(&self.pivots, place.low, place.high),
-            are_below(&self.children, place.next_free),
+            are_taken(&self.children, place.next_free),
             pass.in_order,
             header.has_unused_zero()
                 & (is_zero(pivots_left) & (is_zero(children_left) & pass.exact)),

@@ -38,7 +38,7 @@ loop-row-again g c =
       tail ∙ rest-more k bs rest i (c .loop-row .inv .1),
       c .push-reserved .ensures .capacity ∙ c .loop-row .inv .2,
       omega arith,
-      order-more k (c .args .count) i rest (c .split-at .result .1 .now) less tail (t .key) (t .known) (c .loop-row .next) (c .args .high) (c .from-key .result) _ (c .loop-row .in-order) (c .is-next .result) (c .is-known .result) key (c .is-next .ensures) (c .is-known .ensures) (c .loop-row .inv .4),
+      order-more k (c .args .count) i rest (c .split-at .result .1 .now) less tail (t .key) (t .known) (c .loop-row .next) (c .args .high) (c .from-key .result) _ (c .loop-row .in-order) (c .is-inside .result) (c .is-known .result) key (c .is-inside .ensures) (c .is-known .ensures) (c .loop-row .inv .4),
       exact-more k (c .args .count) i rest (c .split-at .result .1 .now) less tail (t .exact) _ (c .loop-row .exact) (c .is-exact-exact .result) (c .is-exact-exact .ensures) (c .loop-row .inv .5),
     )
 

@@ -14,14 +14,11 @@ use Rattle.nodes.proofs.numbers.are_rising.Needs as need
 one-more : (low high : ℕ) (ks : List ℕ) (i : ℕ) → i < length ks → rising low high (drop i ks) ≡ (leb low (getD ks i 0) && (ltb (getD ks i 0) high && rising (suc (getD ks i 0)) high (drop (i + 1) ks)))
 one-more low high ks i h = at-drop-more (rising low high) ks i 0 h
 
-pub returns-then-key-next : need.returns-then-key-next
-returns-then-key-next c = let h = one-more (c .loop-k .next) (c .args .high) (c .args .keys .now) (c .loop-k .k-index) (omega arith) in grind (arith, tells)
-
-pub returns-then-key-high : need.returns-then-key-high
-returns-then-key-high c = let h = one-more (c .loop-k .next) (c .args .high) (c .args .keys .now) (c .loop-k .k-index) (omega arith) in grind (arith, tells)
+pub returns-then-not-is-inside : need.returns-then-not-is-inside
+returns-then-not-is-inside c = let h = one-more (c .loop-k .next) (c .args .high) (c .args .keys .now) (c .loop-k .k-index) (omega arith) in let t = c .if-not-is-inside .ensures tt in grind (arith, tells)
 
 pub loop-k-again : need.loop-k-again
-loop-k-again c = let h = one-more (c .loop-k .next) (c .args .high) (c .args .keys .now) (c .loop-k .k-index) (omega arith) in rw add-one (grind (arith, tells))
+loop-k-again c = let h = one-more (c .loop-k .next) (c .args .high) (c .args .keys .now) (c .loop-k .k-index) (omega arith) in let t = c .if-not-is-inside .ensures tt in rw add-one (grind (arith, tells))
 
 pub returns : need.returns
 returns c = let e = at-drop-all (rising (c .loop-k .next) (c .args .high)) (c .args .keys .now) (c .loop-k .k-index) (omega arith) in cc (c .loop-k .inv)

@@ -16,8 +16,8 @@ returns c =
     let children = read-from-none (vec-items (c .clear-2 .last .self)) (vec-items (c .read-table-children-left .last .values)) (children-of h bs) (c .clear-2 .ensures .items) (c .read-table-children-left .ensures .values) in
     record {
       fault =
-          inner-fault p h bs (c .first-broken-table .result) (c .are-rising .result) (c .are-below .result) (pass .result .«in_order») (pass .result .exact) (c .has-unused-zero .result) (c .is-zero .result) (c .is-zero-2 .result)
-          (c .deref .result .now) (c .deref-2 .result .now) (c .read-table-pivots-left .result .now) (c .read-table-children-left .result .now) (c .are-rising .ensures) (c .deref .ensures .value ∙ pivots) (c .are-below .ensures) (c .deref-2 .ensures .value ∙ children)
+          inner-fault p h bs (c .first-broken-table .result) (c .are-rising .result) (c .are-taken .result) (pass .result .«in_order») (pass .result .exact) (c .has-unused-zero .result) (c .is-zero .result) (c .is-zero-2 .result)
+          (c .deref .result .now) (c .deref-2 .result .now) (c .read-table-pivots-left .result .now) (c .read-table-children-left .result .now) (c .are-rising .ensures) (c .deref .ensures .value ∙ pivots) (c .are-taken .ensures) (c .deref-2 .ensures .value ∙ children)
           (pass .ensures .order) (pass .ensures .exact) (c .has-unused-zero .ensures) (c .is-zero .ensures) (c .read-table-pivots-left .ensures .rest) (c .is-zero-2 .ensures) (c .read-table-children-left .ensures .rest) (c .first-broken-table .ensures);
       node =
           inner-node p h bs (vec-items (c .read-table-pivots-left .last .values)) (vec-items (c .read-table-children-left .last .values)) (vec-items (c .clear-3 .last .self)) (vec-items (pass .last .entries)) (vec-items (c .clear-4 .last .self))
