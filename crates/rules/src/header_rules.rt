@@ -3,15 +3,18 @@ ghost use mathlib.Core.Path.{_≡_};
 ghost use Prim.Native.Nat.{_≤_, _<_};
 ghost use lib.Dec.{leb};
 ghost use Rattle.std.specs.Options.{Cases};
-ghost use Rattle.nodes.specs.Checks.{header-rules, root-header-rules, header-zero, unused-zero};
-ghost use Rattle.nodes.specs.Rules.{first-broken};
+ghost use Rattle.rules.specs.HeaderRules.{header-rules, root-header-rules, header-zero, unused-zero, root-place};
+ghost use Rattle.rules.specs.Marks.{mark-of};
+ghost use Rattle.rules.specs.Rules.{first-broken};
 use crate::header::Header;
 use crate::limits::FIRST_FREE;
+use crate::limits::KEYS_END;
 use crate::limits::LEAST_CHILDREN;
 use crate::limits::MOST_CHILDREN;
 use crate::limits::MOST_ENTRIES;
 use crate::limits::MOST_LEVEL;
 use crate::limits::MOST_UPDATES;
+use crate::mark::Mark;
 use crate::place::Place;
 use crate::rule::Rule;
 
@@ -89,5 +92,29 @@ impl Header {
             return Some(Rule::HeaderNumbers);
         }
         None
+    }
+
+    // Where the root stands, as its own header says.
+    pub fn root_place(&self) -> Place
+        ensures { λ r. ⌜ r ≡ root-place (now (self .entry)) ⌝ }
+    {
+        Place {
+            level: self.level,
+            low: 0,
+            high: KEYS_END,
+            kind: self.kind,
+            next_free: self.next_free,
+        }
+    }
+
+    // The root's mark, where it is 1 or 2.
+    pub fn root_mark(&self) -> Mark
+        ensures { λ r. ⌜ r ≡ mark-of (now (self .entry) .mark) ⌝ }
+    {
+        if self.mark == 1 {
+            Mark::Closed
+        } else {
+            Mark::InUse
+        }
     }
 }

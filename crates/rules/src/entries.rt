@@ -6,7 +6,7 @@ ghost use Prim.Native.Nat.{ℕ, _+_, _*_, _≤_};
 ghost use lib.ListN.{length};
 ghost use Rattle.std.specs.Of.Vec.{vec-items, vec-len, vec-cap};
 ghost use Rattle.rows.specs.Tables.{values-of};
-ghost use Rattle.nodes.specs.Keys.{known-row, exact-row, rows-in-order, rows-exact};
+ghost use Rattle.rules.specs.Keys.{known-row, exact-row, rows-in-order, rows-exact};
 use crate::numbers::is_inside;
 use messages::entry::Entry;
 use messages::message::Message;

@@ -8,8 +8,8 @@ use lib.Dec.{leb, ltb}
 use lib.ListN.{length, drop, getD}
 use Rattle.std.proofs.shelf.Lists.{at-drop-more, at-drop-all}
 use Rattle.std.proofs.shelf.Ways.{tells}
-use Rattle.nodes.specs.Keys.{rising}
-use Rattle.nodes.proofs.numbers.are_rising.Needs as need
+use Rattle.rules.specs.Keys.{rising}
+use Rattle.rules.proofs.numbers.are_rising.Needs as need
 
 one-more : (low high : ℕ) (ks : List ℕ) (i : ℕ) → i < length ks → rising low high (drop i ks) ≡ (leb low (getD ks i 0) && (ltb (getD ks i 0) high && rising (suc (getD ks i 0)) high (drop (i + 1) ks)))
 one-more low high ks i h = at-drop-more (rising low high) ks i 0 h

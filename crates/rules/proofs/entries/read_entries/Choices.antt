@@ -5,8 +5,8 @@ use Prim.Native.Nat.{_+_, _*_, _-_}
 use lib.ListN.{drop}
 use Rattle.std.specs.Of.Vec.{vec-items, vec-len, vec-cap}
 use Rattle.rows.specs.Tables.{values-of, all-rows}
-use Rattle.nodes.specs.Keys.{rows-in-order}
-use Rattle.nodes.proofs.entries.read_entries.Given as given
+use Rattle.rules.specs.Keys.{rows-in-order}
+use Rattle.rules.proofs.entries.read_entries.Given as given
 
 abbrev pub Inv-loop-row : given.InvT-loop-row
 Inv-loop-row g l =

@@ -2,7 +2,7 @@
 use mathlib.Core.Path.{refl}
 use Prim.Native.Nat.{ℕ}
 use Rattle.rows.specs.Coding.{Coding, number, pair, like}
-use Rattle.nodes.specs.declared.header.Header.{Header}
+use Rattle.rules.specs.declared.header.Header.{Header}
 
 -- the widths of a header's numbers, in their order
 abbrev numbers : Coding (ℕ × (ℕ × (ℕ × (ℕ × (ℕ × (ℕ × (ℕ × (ℕ × (ℕ × ℕ)))))))))

@@ -1,6 +1,6 @@
 // The first 32 bytes of a block.
 ghost use mathlib.Core.Path.{_≡_};
-ghost use Rattle.nodes.specs.Headers.{header-coding};
+ghost use Rattle.rules.specs.Headers.{header-coding};
 use rows::numbers::U8Row;
 use rows::numbers::U16Row;
 use rows::numbers::U32Row;

@@ -6,9 +6,9 @@ use Rattle.std.specs.Of.Vec.{vec-items}
 use Rattle.rows.specs.Bytes.{all-zero}
 use Rattle.rows.specs.Tables.{all-rows}
 use Rattle.rows.proofs.Tables.{read-more, rest-more, row-left}
-use Rattle.nodes.specs.Keys.{rows-in-order}
-use Rattle.nodes.proofs.Passes.{order-more, exact-more, none-left}
-use Rattle.nodes.proofs.entries.read_entries.Needs as need
+use Rattle.rules.specs.Keys.{rows-in-order}
+use Rattle.rules.proofs.Passes.{order-more, exact-more, none-left}
+use Rattle.rules.proofs.entries.read_entries.Needs as need
 
 pub read-entry-requires : need.read-entry-requires
 read-entry-requires g c κs = row-left (g .T·Row .coding .size) (c .loop-row .-row) (c .args .count) (c .args .table .now) (c .loop-row .rest .now) (c .loop-row .inv .1) (c .pre .0) (c .loop-row-test .taken)

@@ -2,7 +2,7 @@
 ghost use mathlib.Core.Path.{_≡_};
 ghost use mathlib.Core.Bool.{_&&_};
 ghost use lib.Dec.{leb, ltb};
-ghost use Rattle.nodes.specs.Keys.{rising, numbers-below};
+ghost use Rattle.rules.specs.Keys.{rising, numbers-below};
 
 // Whether a key lies from `low` on and below `high`.
 pub fn is_inside(key: u64, low: u64, high: u64) -> bool

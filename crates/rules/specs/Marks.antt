@@ -2,8 +2,8 @@
 use mathlib.Core.Bool.{cond}
 use Prim.Native.Nat.{ℕ}
 use lib.Dec.{eqb}
-use Rattle.nodes.specs.declared.mark.Mark.{Mark}
-use Rattle.nodes.specs.declared.mark.Mark.the-variants.{Closed, InUse}
+use Rattle.rules.specs.declared.mark.Mark.{Mark}
+use Rattle.rules.specs.declared.mark.Mark.the-variants.{Closed, InUse}
 
 abbrev pub mark-number : Mark → ℕ
 mark-number Closed = 1

@@ -9,7 +9,7 @@ use lib.Dec.{leb, ltb}
 use lib.ListN.{drop}
 use Rattle.rows.specs.Coding.{Coding}
 use Rattle.rows.specs.Tables.{values-of, all-rows}
-use Rattle.nodes.specs.Keys.{rising, rows-in-order}
+use Rattle.rules.specs.Keys.{rising, rows-in-order}
 
 -- the tests of one row come to the front
 tests-first : (o a b k r s : Bool) → (o && ((a && (b && r)) && (k && s))) ≡ (((o && (a && b)) && k) && (r && s))

@@ -1,6 +1,6 @@
 // The rules that a node's block keeps, in the order in which they are told.
 ghost use mathlib.Core.Path.{_≡_};
-ghost use Rattle.nodes.specs.Rules.{rule-number};
+ghost use Rattle.rules.specs.Rules.{rule-number};
 
 // The rule that a bad node breaks first.
 #[derive(Clone, Copy, PartialEq, Eq, Debug)]

@@ -1,6 +1,6 @@
 // Whether a store is in use, as its root's block says.
 ghost use mathlib.Core.Path.{_≡_};
-ghost use Rattle.nodes.specs.Marks.{mark-number};
+ghost use Rattle.rules.specs.Marks.{mark-number};
 
 #[derive(Clone, Copy, PartialEq, Eq, Debug)]
 pub enum Mark {

@@ -4,8 +4,8 @@ use mathlib.Core.List.{List, [], _∷_}
 use Prim.Native.Nat.{ℕ}
 use Rattle.std.specs.declared.option.Option.{Option}
 use Rattle.std.specs.declared.option.Option.the-variants.{Some, None}
-use Rattle.nodes.specs.declared.rule.Rule.{Rule}
-use Rattle.nodes.specs.declared.rule.Rule.the-variants.{Level, Mark, Count, Children, Kind, HeaderNumbers, Pivots, ChildNumbers, Keys, Unused}
+use Rattle.rules.specs.declared.rule.Rule.{Rule}
+use Rattle.rules.specs.declared.rule.Rule.the-variants.{Level, Mark, Count, Children, Kind, HeaderNumbers, Pivots, ChildNumbers, Keys, Unused}
 
 abbrev pub rule-number : Rule → ℕ
 rule-number Level = 1

@@ -7,8 +7,8 @@ use lib.Dec.{leb, ltb}
 use lib.ListN.{length, drop, getD}
 use Rattle.std.proofs.shelf.Lists.{at-drop-more, at-drop-all}
 use Rattle.std.proofs.shelf.Ways.{tells}
-use Rattle.nodes.specs.Keys.{numbers-below}
-use Rattle.nodes.proofs.numbers.are_taken.Needs as need
+use Rattle.rules.specs.Keys.{numbers-below}
+use Rattle.rules.proofs.numbers.are_taken.Needs as need
 
 one-more : (limit : ℕ) (ns : List ℕ) (i : ℕ) → i < length ns → numbers-below limit (drop i ns) ≡ (leb 1 (getD ns i 0) && (ltb (getD ns i 0) limit && numbers-below limit (drop (i + 1) ns)))
 one-more limit ns i h = at-drop-more (numbers-below limit) ns i 0 h

@@ -1,6 +1,6 @@
 use mathlib.Core.Path.{_≡_}
 use Rattle.std.proofs.shelf.Lists.{take-rest, drop-drop}
-use Rattle.nodes.proofs.header.HeaderRow.read.Needs as need
+use Rattle.rules.proofs.header.HeaderRow.read.Needs as need
 
 pub returns : need.returns
 returns c =
