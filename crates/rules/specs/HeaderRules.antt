@@ -7,6 +7,7 @@ use Rattle.std.specs.declared.option.Option.{Option}
 use Rattle.std.specs.declared.option.Option.the-variants.{Some, None}
 use Rattle.std.specs.declared.result.Result.{Result}
 use Rattle.std.specs.declared.result.Result.the-variants.{Ok, Err}
+use Rattle.tree.specs.Limits.{most-entries, most-children, fewest-children}
 use Rattle.rules.specs.declared.header.Header.{Header}
 use Rattle.rules.specs.declared.place.Place.{Place}
 use Rattle.rules.specs.declared.rule.Rule.{Rule}
@@ -18,11 +19,11 @@ within least most n = leb least n && leb n most
 
 -- the children of a node below the root: none in a leaf, else 4 to 8
 abbrev pub children-fit : ℕ → ℕ → Bool
-children-fit level n = cond (eqb level 0) (eqb n 0) (within 4 8 n)
+children-fit level n = cond (eqb level 0) (eqb n 0) (within fewest-children most-children n)
 
 -- the children of the root: 1 to 8 at level 1, else 2 to 8
 abbrev pub root-children-fit : ℕ → ℕ → Bool
-root-children-fit level n = cond (eqb level 1) (within 1 8 n) (within 2 8 n)
+root-children-fit level n = cond (eqb level 1) (within 1 most-children n) (within 2 most-children n)
 
 -- bytes 8 to 31 are zero
 abbrev pub header-zero : Header → Bool
@@ -33,7 +34,7 @@ abbrev pub header-rules : Place → Header → List (Bool × Rule)
 header-rules p h =
     (eqb (h .level) (p .level), Level)
     ∷ (eqb (h .mark) 0, Mark)
-    ∷ (leb (h .count) 256, Count)
+    ∷ (leb (h .count) most-entries, Count)
     ∷ (children-fit (p .level) (h .children), Children)
     ∷ (eqb (h .kind) (p .kind), Kind)
     ∷ (header-zero h, HeaderNumbers)
@@ -44,7 +45,7 @@ abbrev pub root-header-rules : ℕ → Header → List (Bool × Rule)
 root-header-rules size h =
     (within 1 8 (h .level), Level)
     ∷ (within 1 2 (h .mark), Mark)
-    ∷ (leb (h .count) 256, Count)
+    ∷ (leb (h .count) most-entries, Count)
     ∷ (root-children-fit (h .level) (h .children), Children)
     ∷ (within 2 size (h .«next_free») && leb (h .updates) 4294967296, HeaderNumbers)
     ∷ []

@@ -4,6 +4,7 @@ ghost use Prim.Native.Nat.{_≤_, _<_};
 ghost use lib.Dec.{leb};
 ghost use Rattle.std.specs.Options.{Cases};
 ghost use Rattle.rules.specs.HeaderRules.{header-rules, root-header-rules, header-zero, unused-zero, root-place};
+ghost use Rattle.tree.specs.Limits.{most-entries};
 ghost use Rattle.rules.specs.Marks.{mark-of};
 ghost use Rattle.rules.specs.Rules.{first-broken};
 use crate::header::Header;
@@ -21,7 +22,7 @@ use crate::rule::Rule;
 impl Header {
     // Whether there are no more messages or records than a block may hold.
     fn has_few_entries(&self) -> bool
-        ensures { λ r. ⌜ r ≡ leb (now (self .entry) .count) 256 ⌝ }
+        ensures { λ r. ⌜ r ≡ leb (now (self .entry) .count) most-entries ⌝ }
     {
         self.count as usize <= MOST_ENTRIES
     }
