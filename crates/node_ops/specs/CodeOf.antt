@@ -12,9 +12,9 @@ use Rattle.messages.specs.declared.entry.Entry.{Entry}
 use Rattle.messages.specs.declared.message.Message.{Message}
 use Rattle.nodes.specs.Blocks.{node-block, header-of, pivots-of, children-of, messages-of, records-of}
 use Rattle.nodes.specs.Checks.{node-fault}
-use Rattle.nodes.specs.Rules.{rule-number}
-use Rattle.nodes.specs.declared.place.Place.{Place}
-use Rattle.nodes.specs.declared.rule.Rule.{Rule}
+use Rattle.rules.specs.Rules.{rule-number}
+use Rattle.rules.specs.declared.place.Place.{Place}
+use Rattle.rules.specs.declared.rule.Rule.{Rule}
 use Rattle.plan.specs.Codes.{Code}
 use Rattle.tree.specs.Nodes.{Node}
 

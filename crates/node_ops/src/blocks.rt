@@ -9,8 +9,8 @@ ghost use Rattle.nodes.specs.Views.{view};
 ghost use Rattle.plan.specs.Codes.{decoded};
 use messages::kind::Kind;
 use nodes::node::Node;
-use nodes::place::Place;
-use nodes::rule::Rule;
+use rules::place::Place;
+use rules::rule::Rule;
 
 // Takes over the node of a block where one of a level and span is expected, or tells the first rule that the block breaks.
 pub fn read_node<K: Kind>(

@@ -1,4 +1,3 @@
-pub mod Passes
 pub mod Written
 pub mod Loaded
 pub mod TablesBack

@@ -17,14 +17,15 @@ use Rattle.rows.specs.Bytes.{all-zero}
 use Rattle.rows.specs.Coding.{number}
 use Rattle.rows.specs.Entries.{record-coding, message-entry-coding}
 use Rattle.rows.specs.Tables.{values-of}
-use Rattle.nodes.specs.declared.header.Header.{Header}
-use Rattle.nodes.specs.declared.place.Place.{Place}
-use Rattle.nodes.specs.declared.rule.Rule.{Rule}
-use Rattle.nodes.specs.declared.rule.Rule.the-variants.{Pivots, ChildNumbers, Keys, Unused}
+use Rattle.rules.specs.declared.header.Header.{Header}
+use Rattle.rules.specs.declared.place.Place.{Place}
+use Rattle.rules.specs.declared.rule.Rule.{Rule}
+use Rattle.rules.specs.declared.rule.Rule.the-variants.{Pivots, ChildNumbers, Keys, Unused}
 use Rattle.nodes.specs.Blocks.{header-of, node-of, pivots-of, children-of, messages-of, records-of}
-use Rattle.nodes.specs.Checks.{leaf-rules, inner-rules, table-rules, header-rules, unused-zero, verdict}
-use Rattle.nodes.specs.Keys.{rising, numbers-below, known-row, exact-row, rows-in-order, rows-exact}
-use Rattle.nodes.specs.Rules.{first-broken}
+use Rattle.nodes.specs.Checks.{leaf-rules, inner-rules, table-rules}
+use Rattle.rules.specs.HeaderRules.{header-rules, unused-zero, verdict}
+use Rattle.rules.specs.Keys.{rising, numbers-below, known-row, exact-row, rows-in-order, rows-exact}
+use Rattle.rules.specs.Rules.{first-broken}
 use Rattle.tree.specs.Nodes.{Node}
 
 -- a rule that is broken among the first is the first

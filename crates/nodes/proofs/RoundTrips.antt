@@ -14,19 +14,20 @@ use Rattle.std.specs.declared.result.Result.the-variants.{Ok}
 use Rattle.std.proofs.shelf.Tests.{and-parts, and-from, eqb-true, leb-true, eqb-false, eq-eqb, le-leb, lt-ltb, cases-eq}
 use Rattle.rows.specs.Bytes.{Bytes}
 use Rattle.tree.specs.Nodes.{Node}
-use Rattle.nodes.specs.declared.header.Header.{Header}
-use Rattle.nodes.specs.declared.mark.Mark.{Mark}
-use Rattle.nodes.specs.declared.mark.Mark.the-variants.{Closed, InUse}
-use Rattle.nodes.specs.declared.place.Place.{Place}
-use Rattle.nodes.specs.declared.rule.Rule.{Rule}
-use Rattle.nodes.specs.declared.rule.Rule.the-variants.{Level, Mark as MarkRule, Count, Children, Kind, HeaderNumbers}
+use Rattle.rules.specs.declared.header.Header.{Header}
+use Rattle.rules.specs.declared.mark.Mark.{Mark}
+use Rattle.rules.specs.declared.mark.Mark.the-variants.{Closed, InUse}
+use Rattle.rules.specs.declared.place.Place.{Place}
+use Rattle.rules.specs.declared.rule.Rule.{Rule}
+use Rattle.rules.specs.declared.rule.Rule.the-variants.{Level, Mark as MarkRule, Count, Children, Kind, HeaderNumbers}
 use Rattle.nodes.specs.Blocks.{tables-of, count-of, header-below, node-block, header-of, node-of}
-use Rattle.nodes.specs.Checks.{header-rules, root-header-rules, table-rules, root-place, node-fault, root-fault, children-fit, root-children-fit, within, verdict}
-use Rattle.nodes.specs.Headers.{header-coding}
+use Rattle.nodes.specs.Checks.{table-rules, node-fault, root-fault}
+use Rattle.rules.specs.HeaderRules.{header-rules, root-header-rules, root-place, children-fit, root-children-fit, within, verdict}
+use Rattle.rules.specs.Headers.{header-coding}
 use Rattle.nodes.specs.Laws.{Block, Fits-place, Good-node, Good-root, place-of-root, Node-blocks-round-trip, Root-blocks-round-trip}
-use Rattle.nodes.specs.Marks.{mark-of, mark-number}
+use Rattle.rules.specs.Marks.{mark-of, mark-number}
 use Rattle.nodes.specs.Roots.{Root, root-header, root-block, root-by, root-of}
-use Rattle.nodes.specs.Rules.{first-broken}
+use Rattle.rules.specs.Rules.{first-broken}
 use Rattle.nodes.proofs.Loaded.{first-none}
 use Rattle.nodes.proofs.TablesBack.{all-passed, tables-back, tables-forth, unused-forth, count-forth, children-forth}
 

@@ -23,15 +23,16 @@ use Rattle.rows.specs.Entries.{record-coding, message-entry-coding, message-cod
 use Rattle.rows.specs.Tables.{rows-of, table-of, values-of, all-rows}
 use Rattle.rows.proofs.Tables.{length-rows, length-table, length-values, table-back, table-end, values-back, all-rows-pass}
 use Rattle.tree.specs.Nodes.{Node}
-use Rattle.nodes.specs.declared.header.Header.{Header}
-use Rattle.nodes.specs.declared.place.Place.{Place}
-use Rattle.nodes.specs.declared.rule.Rule.{Rule}
-use Rattle.nodes.specs.declared.rule.Rule.the-variants.{Pivots, ChildNumbers, Keys, Unused}
+use Rattle.rules.specs.declared.header.Header.{Header}
+use Rattle.rules.specs.declared.place.Place.{Place}
+use Rattle.rules.specs.declared.rule.Rule.{Rule}
+use Rattle.rules.specs.declared.rule.Rule.the-variants.{Pivots, ChildNumbers, Keys, Unused}
 use Rattle.nodes.specs.Blocks.{tables-of, count-of, node-of, pivots-of, children-of, messages-of, records-of}
-use Rattle.nodes.specs.Checks.{leaf-rules, inner-rules, table-rules, unused-zero}
-use Rattle.nodes.specs.Keys.{rising, numbers-below, known-row, exact-row, rows-in-order, rows-exact}
+use Rattle.nodes.specs.Checks.{leaf-rules, inner-rules, table-rules}
+use Rattle.rules.specs.HeaderRules.{unused-zero}
+use Rattle.rules.specs.Keys.{rising, numbers-below, known-row, exact-row, rows-in-order, rows-exact}
 use Rattle.nodes.specs.Laws.{Block, Fits-place}
-use Rattle.nodes.specs.Rules.{first-broken}
+use Rattle.rules.specs.Rules.{first-broken}
 
 -- the part of a list that stands behind another
 part-at : (a b c : List ℕ) (i n : ℕ) → length a ≡ i → length b ≡ n → take n (drop i (a ++ (b ++ c))) ≡ b

@@ -10,9 +10,9 @@ use Rattle.messages.specs.declared.message.Message.{Message}
 use Rattle.rows.specs.Coding.{number}
 use Rattle.rows.specs.Entries.{record-coding, message-entry-coding}
 use Rattle.rows.specs.Tables.{table-of, values-of}
-use Rattle.nodes.specs.declared.header.Header.{Header}
-use Rattle.nodes.specs.declared.place.Place.{Place}
-use Rattle.nodes.specs.Headers.{header-coding}
+use Rattle.rules.specs.declared.header.Header.{Header}
+use Rattle.rules.specs.declared.place.Place.{Place}
+use Rattle.rules.specs.Headers.{header-coding}
 use Rattle.tree.specs.Nodes.{Node}
 
 -- a leaf's records from byte 32; an inner node's pivots from byte 32, child numbers from byte 60 and messages from byte 92

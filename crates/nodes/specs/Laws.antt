@@ -11,12 +11,13 @@ use Rattle.rows.specs.Coding.{number}
 use Rattle.rows.specs.Entries.{record-coding, message-entry-coding}
 use Rattle.tree.specs.Nodes.{Node}
 use Rattle.nodes.specs.Blocks.{count-of, header-of, node-block, node-of}
-use Rattle.nodes.specs.Checks.{children-fit, root-children-fit, within, node-fault, root-fault}
-use Rattle.nodes.specs.Keys.{rising, numbers-below}
-use Rattle.nodes.specs.Marks.{mark-of}
+use Rattle.nodes.specs.Checks.{node-fault, root-fault}
+use Rattle.rules.specs.HeaderRules.{children-fit, root-children-fit, within}
+use Rattle.rules.specs.Keys.{rising, numbers-below}
+use Rattle.rules.specs.Marks.{mark-of}
 use Rattle.nodes.specs.Roots.{Root, root-block, root-of}
-use Rattle.nodes.specs.declared.mark.Mark.{Mark}
-use Rattle.nodes.specs.declared.place.Place.{Place}
+use Rattle.rules.specs.declared.mark.Mark.{Mark}
+use Rattle.rules.specs.declared.place.Place.{Place}
 
 -- a block's worth of bytes
 abbrev pub Block : List ℕ → Type 0

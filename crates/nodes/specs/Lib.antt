@@ -1,7 +1,3 @@
-pub mod Rules
-pub mod Marks
-pub mod Headers
-pub mod Keys
 pub mod Views
 pub mod Blocks
 pub mod Checks

@@ -3,14 +3,14 @@ use mathlib.Core.List.{List, [], _++_}
 use Prim.Native.Nat.{ℕ}
 use lib.ListN.{length}
 use Rattle.nodes.specs.Blocks.{count-of, header-of, node-of, tables-of}
-use Rattle.nodes.specs.Checks.{root-place}
-use Rattle.nodes.specs.Headers.{header-coding}
-use Rattle.nodes.specs.Marks.{mark-number}
+use Rattle.rules.specs.HeaderRules.{root-place}
+use Rattle.rules.specs.Headers.{header-coding}
+use Rattle.rules.specs.Marks.{mark-number}
 use Rattle.tree.specs.Nodes.{Node, node}
 use Rattle.tree.specs.Operations.{fresh}
 use Rattle.nodes.specs.Views.{view}
-use Rattle.nodes.specs.declared.header.Header.{Header}
-use Rattle.nodes.specs.declared.mark.Mark.{Mark}
+use Rattle.rules.specs.declared.header.Header.{Header}
+use Rattle.rules.specs.declared.mark.Mark.{Mark}
 use Rattle.nodes.specs.declared.root.Root.{Root as RootInMemory}
 
 pub record Root : Type 0 where

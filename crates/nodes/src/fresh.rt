@@ -5,13 +5,13 @@ ghost use Rattle.tree.specs.Nodes.{node};
 ghost use Rattle.tree.specs.Operations.{fresh};
 ghost use Rattle.nodes.specs.Roots.{empty-leaf, fresh-root, view-root};
 ghost use Rattle.nodes.specs.Views.{view};
-use crate::limits::FIRST_FREE;
-use crate::limits::KEYS_END;
-use crate::limits::MOST_CHILDREN;
-use crate::limits::MOST_ENTRIES;
-use crate::limits::MOST_MESSAGES;
 use crate::node::Node;
 use crate::root::Root;
+use rules::limits::FIRST_FREE;
+use rules::limits::KEYS_END;
+use rules::limits::MOST_CHILDREN;
+use rules::limits::MOST_ENTRIES;
+use rules::limits::MOST_MESSAGES;
 use std::alloc::AllocError;
 use std::alloc::Global;
 

@@ -6,27 +6,28 @@ ghost use Rattle.std.specs.Of.Vec.{vec-len};
 ghost use Rattle.std.specs.Results.{isOk};
 ghost use mathlib.Core.List.{[], _∷_};
 ghost use Rattle.nodes.specs.Blocks.{header-of, node-block, node-of};
-ghost use Rattle.nodes.specs.Checks.{leaf-rules, inner-rules, table-rules, node-fault, verdict};
-ghost use Rattle.nodes.specs.Rules.{first-broken};
+ghost use Rattle.nodes.specs.Checks.{leaf-rules, inner-rules, table-rules, node-fault};
+ghost use Rattle.rules.specs.HeaderRules.{verdict};
+ghost use Rattle.rules.specs.Rules.{first-broken};
 ghost use Rattle.nodes.specs.Views.{view};
-ghost use Rattle.nodes.specs.declared.rule.Rule.the-variants.{Pivots, ChildNumbers, Keys, Unused};
-use crate::entries::MessageKeyed;
-use crate::entries::RecordKeyed;
-use crate::entries::read_entries;
-use crate::header::Header;
-use crate::header::HeaderRow;
-use crate::limits::BLOCK_SIZE;
+ghost use Rattle.rules.specs.declared.rule.Rule.the-variants.{Pivots, ChildNumbers, Keys, Unused};
 use crate::node::Node;
-use crate::numbers::are_below;
-use crate::numbers::are_rising;
-use crate::place::Place;
-use crate::rule::Rule;
 use rows::bytes::is_zero;
 use rows::entries::MessageEntryRow;
 use rows::entries::RecordRow;
 use rows::numbers::U32Row;
 use rows::row::Row;
 use rows::table::read_table;
+use rules::entries::MessageKeyed;
+use rules::entries::RecordKeyed;
+use rules::entries::read_entries;
+use rules::header::Header;
+use rules::header::HeaderRow;
+use rules::limits::BLOCK_SIZE;
+use rules::numbers::are_rising;
+use rules::numbers::are_taken;
+use rules::place::Place;
+use rules::rule::Rule;
 
 // The first rule of an inner node's tables that is broken, by what was found of each.
 fn first_broken_table(
@@ -120,7 +121,7 @@ impl Node {
         );
         first_broken_table(
             are_rising(&self.pivots, place.low, place.high),
-            are_below(&self.children, place.next_free),
+            are_taken(&self.children, place.next_free),
             pass.in_order,
             header.has_unused_zero()
                 & (is_zero(pivots_left) & (is_zero(children_left) & pass.exact)),

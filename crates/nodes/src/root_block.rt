@@ -3,45 +3,20 @@ ghost use mathlib.Core.Path.{_≡_};
 ghost use mathlib.Core.Bool.{true};
 ghost use Rattle.std.specs.Results.{isOk};
 ghost use Rattle.std.specs.Vec.{made};
-ghost use Rattle.nodes.specs.Checks.{root-fault, root-place, verdict};
+ghost use Rattle.nodes.specs.Checks.{root-fault};
+ghost use Rattle.rules.specs.HeaderRules.{root-place, verdict};
 ghost use Rattle.nodes.specs.Blocks.{header-of};
-ghost use Rattle.nodes.specs.Marks.{mark-of};
+ghost use Rattle.rules.specs.Marks.{mark-of};
 ghost use Rattle.nodes.specs.Roots.{root-header, root-block, root-of, view-root};
-use crate::header::Header;
-use crate::header::HeaderRow;
-use crate::limits::BLOCK_SIZE;
-use crate::limits::KEYS_END;
-use crate::mark::Mark;
-use crate::place::Place;
 use crate::root::Root;
-use crate::rule::Rule;
 use rows::row::Row;
-
-impl Header {
-    // Where the root stands, as its own header says.
-    fn root_place(&self) -> Place
-        ensures { λ r. ⌜ r ≡ root-place (now (self .entry)) ⌝ }
-    {
-        Place {
-            level: self.level,
-            low: 0,
-            high: KEYS_END,
-            kind: self.kind,
-            next_free: self.next_free,
-        }
-    }
-
-    // The root's mark, where it is 1 or 2.
-    fn root_mark(&self) -> Mark
-        ensures { λ r. ⌜ r ≡ mark-of (now (self .entry) .mark) ⌝ }
-    {
-        if self.mark == 1 {
-            Mark::Closed
-        } else {
-            Mark::InUse
-        }
-    }
-}
+use rules::header::Header;
+use rules::header::HeaderRow;
+use rules::limits::BLOCK_SIZE;
+use rules::limits::KEYS_END;
+use rules::mark::Mark;
+use rules::place::Place;
+use rules::rule::Rule;
 
 impl Root {
     // The header of the root.

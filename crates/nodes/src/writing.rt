@@ -4,15 +4,15 @@ ghost use mathlib.Core.List.{_++_};
 ghost use lib.ListN.{take};
 ghost use Rattle.nodes.specs.Blocks.{header-below, node-block, tables-of};
 ghost use Rattle.nodes.specs.Views.{view};
-use crate::header::Header;
-use crate::header::HeaderRow;
-use crate::limits::BLOCK_SIZE;
 use crate::node::Node;
 use rows::entries::MessageEntryRow;
 use rows::entries::RecordRow;
 use rows::numbers::U32Row;
 use rows::row::Row;
 use rows::table::write_table;
+use rules::header::Header;
+use rules::header::HeaderRow;
+use rules::limits::BLOCK_SIZE;
 
 impl Node {
     // The header of the node below the root.

@@ -8,8 +8,8 @@ ghost use Rattle.tree.specs.Operations.{lower-half, upper-half, split-key};
 ghost use Rattle.tree.specs.Update.{is-full};
 use crate::halves::split_inner;
 use crate::halves::split_leaf;
-use nodes::limits::MOST_CHILDREN;
 use nodes::node::Node;
+use rules::limits::MOST_CHILDREN;
 
 // A leaf with more records is split before messages come to it.
 pub const ROOMY_LEAF: usize = 240;

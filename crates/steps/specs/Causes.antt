@@ -6,7 +6,7 @@ use Rattle.std.specs.declared.result.Result.{Result}
 use Rattle.std.specs.declared.result.Result.the-variants.{Ok, Err}
 use Rattle.blocks.specs.Refusals.{refusal-number}
 use Rattle.blocks.specs.declared.refusal.Refusal.the-variants.{NoSuchBlock as no-such-block, Spent as spent, Lost as lost}
-use Rattle.nodes.specs.Rules.{rule-number}
+use Rattle.rules.specs.Rules.{rule-number}
 use Rattle.plan.specs.Images.{Image, Report, Try, device-report, node-report}
 use Rattle.plan.specs.Images.Try.{done, stop}
 use Rattle.plan.specs.declared.layer.Layer.the-variants.{Store as store-layer}

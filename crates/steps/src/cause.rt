@@ -1,5 +1,5 @@
 // Why a call of a store was refused, or why it stopped.
-use nodes::rule::Rule;
+use rules::rule::Rule;
 
 // What a store itself refuses.
 #[derive(Clone, Copy)]

@@ -15,8 +15,8 @@ use crate::scratch::Scratch;
 use crate::step::make_step;
 use blocks::device::Device;
 use messages::kind::Kind;
-use nodes::limits::MOST_ENTRIES;
 use nodes::node::Node;
+use rules::limits::MOST_ENTRIES;
 
 // Whether a step is due from a node.
 fn is_step_due(node: &Node) -> bool

@@ -18,9 +18,9 @@ use messages::entry::Entry;
 use messages::kind::Kind;
 use messages::message::Message;
 use node_ops::moves::join;
-use nodes::limits::MOST_CHILDREN;
-use nodes::limits::MOST_ENTRIES;
 use nodes::node::Node;
+use rules::limits::MOST_CHILDREN;
+use rules::limits::MOST_ENTRIES;
 use splits::cut::cut_root;
 
 // Makes the steps from the root on. The root itself stays in memory.

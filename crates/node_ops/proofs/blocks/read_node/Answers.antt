@@ -5,7 +5,7 @@ use Rattle.std.specs.declared.option.Option.{Option}
 use Rattle.std.specs.declared.option.Option.the-variants.{Some, None}
 use Rattle.std.specs.declared.result.Result.{Result}
 use Rattle.nodes.specs.Checks.{node-fault, verdict}
-use Rattle.nodes.specs.declared.rule.Rule.{Rule}
+use Rattle.rules.specs.declared.rule.Rule.{Rule}
 use Rattle.node_ops.specs.CodeOf.{fault-of, pivots-at, children-at, messages-at, records-at, place-at, number-of-rule, number-of-error}
 use Rattle.node_ops.proofs.blocks.read_node.Needs as need
 

@@ -18,8 +18,8 @@ returns c =
     record {
       sizes = search needs;
       fault =
-          inner-fault p h bs (c .first-broken-table .result) (c .are-rising .result) (c .are-below .result) (pass .result .«in_order») (pass .result .exact) (c .has-unused-zero .result) (c .is-zero .result) (c .is-zero-2 .result)
-          (c .deref .result .now) (c .deref-2 .result .now) (c .read-table-pivots-left .result .now) (c .read-table-children-left .result .now) (c .are-rising .ensures) (c .deref .ensures .value ∙ pivots) (c .are-below .ensures) (c .deref-2 .ensures .value ∙ children)
+          inner-fault p h bs (c .first-broken-table .result) (c .are-rising .result) (c .are-taken .result) (pass .result .«in_order») (pass .result .exact) (c .has-unused-zero .result) (c .is-zero .result) (c .is-zero-2 .result)
+          (c .deref .result .now) (c .deref-2 .result .now) (c .read-table-pivots-left .result .now) (c .read-table-children-left .result .now) (c .are-rising .ensures) (c .deref .ensures .value ∙ pivots) (c .are-taken .ensures) (c .deref-2 .ensures .value ∙ children)
           (pass .ensures .order) (pass .ensures .exact) (c .has-unused-zero .ensures) (c .is-zero .ensures) (c .read-table-pivots-left .ensures .rest) (c .is-zero-2 .ensures) (c .read-table-children-left .ensures .rest) (c .first-broken-table .ensures);
       node =
           inner-node p h bs (vec-items (c .read-table-pivots-left .last .values)) (vec-items (c .read-table-children-left .last .values)) (vec-items (c .clear-3 .last .self)) (vec-items (pass .last .entries)) (vec-items (c .clear-4 .last .self))

@@ -1,6 +1,7 @@
 use mathlib.Core.Path.{_≡_, ap, _∙_}
 use Rattle.nodes.specs.Blocks.{header-of, node-of}
-use Rattle.nodes.specs.Checks.{header-rules, table-rules, node-fault}
+use Rattle.nodes.specs.Checks.{table-rules, node-fault}
+use Rattle.rules.specs.HeaderRules.{header-rules}
 use Rattle.nodes.specs.Views.{view}
 use Rattle.nodes.proofs.Loaded.{bad-header, bad-tables, none-bad, not-ok}
 use Rattle.nodes.proofs.RoundTrips.{node-exact}

@@ -1,10 +1,11 @@
 use mathlib.Core.Path.{_≡_, ap, _∙_}
 use Rattle.std.specs.declared.result.Result.the-variants.{Ok}
 use Rattle.nodes.specs.Blocks.{header-of, node-of}
-use Rattle.nodes.specs.Checks.{root-header-rules, root-place, table-rules, root-fault}
-use Rattle.nodes.specs.Marks.{mark-of}
+use Rattle.nodes.specs.Checks.{table-rules, root-fault}
+use Rattle.rules.specs.HeaderRules.{root-header-rules, root-place}
+use Rattle.rules.specs.Marks.{mark-of}
 use Rattle.nodes.specs.Roots.{root-by, root-of}
-use Rattle.nodes.specs.Rules.{first-broken}
+use Rattle.rules.specs.Rules.{first-broken}
 use Rattle.nodes.proofs.Loaded.{bad-header, bad-tables, none-bad, not-ok}
 use Rattle.nodes.proofs.RoundTrips.{root-exact}
 use Rattle.nodes.proofs.root.Root.read.Needs as need

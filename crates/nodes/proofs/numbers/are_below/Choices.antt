@@ -1,7 +1,0 @@
-use mathlib.Core.Path.{_≡_}
-use lib.ListN.{drop}
-use Rattle.nodes.specs.Keys.{numbers-below}
-use Rattle.nodes.proofs.numbers.are_below.Given as given
-
-abbrev pub Inv-loop-n : given.InvT-loop-n
-Inv-loop-n l = numbers-below (l .limit) (drop (l .n-index) (l .numbers)) ≡ numbers-below (l .limit) (l .numbers)
