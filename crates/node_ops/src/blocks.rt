@@ -24,6 +24,7 @@ pub fn read_node<K: Kind>(
     ensures answer { λ r. ⌜ number-of-error r ≡ code-of algebra .fault level low high «next_free» (now (block .entry)) ⌝ }
     ensures node { λ r. ⌜ (isOk r ≡ true → view (now (node .exit)) ≡ decoded (code-of algebra) level low high (now (block .entry))) ⌝ }
     ensures sizes { λ r. ⌜ (isOk r ≡ true → (now (node .exit) .level ≡ level) × (vec-len (now (node .exit) .messages) ≤ 256)) ⌝ }
+    ensures span { λ r. ⌜ (isOk r ≡ true → (now (node .exit) .low ≡ low) × (now (node .exit) .high ≡ high)) ⌝ }
 {
     let place = Place {
         level,

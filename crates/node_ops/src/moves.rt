@@ -3,7 +3,7 @@ ghost use mathlib.Core.Path.{_≡_};
 ghost use Prim.Native.Nat.{_+_, _≤_, _<_};
 ghost use lib.ListN.{length};
 ghost use Rattle.std.specs.Of.Vec.{vec-items, vec-len, vec-cap};
-ghost use Rattle.messages.specs.Lists.{joins, acts-in, batch as batch-of};
+ghost use Rattle.messages.specs.Lists.{joins, acts-in, pending, batch as batch-of};
 ghost use Rattle.nodes.specs.Views.{view};
 ghost use Rattle.tree.specs.Operations.{with-message, with-new-child, without-batch, absorb};
 use messages::entry::Entry;
@@ -70,6 +70,8 @@ pub fn move_batch<K: Kind>(parent: &mut Node, child: &mut Node, batch: &mut Vec<
     ensures child { λ _. ⌜ view (now (child .exit)) ≡ absorb algebra (batch-of (now (child .entry) .low) (now (child .entry) .high) (vec-items (now (parent .entry) .messages))) (view (now (child .entry))) ⌝ }
     ensures levels { λ _. ⌜ (now (parent .exit) .level ≡ now (parent .entry) .level) × (now (child .exit) .level ≡ now (child .entry) .level) ⌝ }
     ensures children { λ _. ⌜ (vec-len (now (parent .exit) .children) ≡ vec-len (now (parent .entry) .children)) × (vec-len (now (child .exit) .children) ≡ vec-len (now (child .entry) .children)) ⌝ }
+    ensures fewer { λ _. ⌜ (0 < pending (now (child .entry) .low) (now (child .entry) .high) (vec-items (now (parent .entry) .messages)) → vec-len (now (parent .exit) .messages) < vec-len (now (parent .entry) .messages)) ⌝ }
+    ensures span { λ _. ⌜ (now (parent .exit) .low ≡ now (parent .entry) .low) × (now (parent .exit) .high ≡ now (parent .entry) .high) ⌝ }
     ensures room { λ _. ⌜ 16 ≤ vec-cap (now (batch .exit)) ⌝ }
 {
     batch.clear();
@@ -83,6 +85,7 @@ pub fn add_child(node: &mut Node, j: usize, key: u32, block: u32)
     ensures value { λ _. ⌜ view (now (node .exit)) ≡ with-new-child j key block (view (now (node .entry))) ⌝ }
     ensures level { λ _. ⌜ now (node .exit) .level ≡ now (node .entry) .level ⌝ }
     ensures children { λ _. ⌜ (vec-len (now (node .exit) .children) ≡ vec-len (now (node .entry) .children) + 1) × (vec-len (now (node .exit) .pivots) ≡ vec-len (now (node .entry) .pivots) + 1) ⌝ }
+    ensures same { λ _. ⌜ (now (node .exit) .low ≡ now (node .entry) .low) × (now (node .exit) .high ≡ now (node .entry) .high) × (now (node .exit) .messages ≡ now (node .entry) .messages) ⌝ }
 {
     let _ = node.pivots.insert(j, key);
     let _ = node.children.insert(j + 1, block);

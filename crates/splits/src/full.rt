@@ -33,6 +33,7 @@ pub fn split(node: &mut Node, upper: &mut Node) -> u32
     ensures key { λ r. ⌜ r ≡ split-key (now (node .entry) .level) (view (now (node .entry))) ⌝ }
     ensures lower { λ _. ⌜ view (now (node .exit)) ≡ lower-half (now (node .entry) .level) (view (now (node .entry))) ⌝ }
     ensures upper { λ _. ⌜ view (now (upper .exit)) ≡ upper-half (now (node .entry) .level) (view (now (node .entry))) ⌝ }
+    ensures spans { λ r. ⌜ (now (node .exit) .low ≡ now (node .entry) .low) × (now (node .exit) .high ≡ r) × (now (upper .exit) .low ≡ r) × (now (upper .exit) .high ≡ now (node .entry) .high) ⌝ }
     ensures levels { λ _. ⌜ (now (node .exit) .level ≡ now (node .entry) .level) × (now (upper .exit) .level ≡ now (node .entry) .level) ⌝ }
     ensures messages { λ _. ⌜ (vec-len (now (node .exit) .messages) ≤ vec-len (now (node .entry) .messages)) × (vec-len (now (upper .exit) .messages) ≤ vec-len (now (node .entry) .messages)) ⌝ }
     ensures children { λ _. ⌜ (0 < now (node .entry) .level → (vec-len (now (node .exit) .children) ≡ 4) × (vec-len (now (upper .exit) .children) ≡ 4)) ⌝ }

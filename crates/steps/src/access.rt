@@ -8,7 +8,7 @@ ghost use Rattle.blocks.specs.Media.{Lowered};
 ghost use Rattle.node_ops.specs.CodeOf.{code-of};
 ghost use Rattle.nodes.specs.Views.{view};
 ghost use Rattle.plan.specs.Images.{image, save};
-ghost use Rattle.plan.specs.Steps.{fetch-child};
+ghost use Rattle.plan.specs.Steps.{child-low, child-high, fetch-child};
 ghost use Rattle.steps.specs.Causes.{tried};
 use crate::cause::Cause;
 use blocks::device::Device;
@@ -33,6 +33,7 @@ pub fn fetch_child<D: Device, K: Kind>(
     ensures value { λ r. ⌜ tried (D·Device .number) r (image (D·Device .meaning (now (device .exit)))) (λ _. record { image = image (D·Device .meaning (now (device .exit))); child = view (now (child .exit)) }) ≡ fetch-child (code-of (K·Kind .algebra)) (image (D·Device .meaning (now (device .entry)))) «next_free» (view (now (parent .entry))) j ⌝ }
     ensures allowance { λ _. ⌜ D·Device .meaning (now (device .exit)) .allowance ≡ D·Device .meaning (now (device .entry)) .allowance ⌝ }
     ensures sizes { λ r. ⌜ (isOk r ≡ true → (now (child .exit) .level + 1 ≡ now (parent .entry) .level) × (vec-len (now (child .exit) .messages) ≤ 256)) ⌝ }
+    ensures span { λ r. ⌜ (isOk r ≡ true → (now (child .exit) .low ≡ child-low (view (now (parent .entry))) j) × (now (child .exit) .high ≡ child-high (view (now (parent .entry))) j)) ⌝ }
 {
     let at = child_block(parent, j);
     let low = child_low(parent, j);

@@ -2,10 +2,12 @@
 ghost use mathlib.Core.Path.{_≡_};
 ghost use mathlib.Core.Bool.{true};
 ghost use Prim.Native.Nat.{_+_, _≤_, _<_};
-ghost use Rattle.std.specs.Of.Vec.{vec-len};
+ghost use Rattle.std.specs.Of.Vec.{vec-items, vec-len};
 ghost use Rattle.std.specs.Results.{isOk};
 ghost use Rattle.blocks.specs.Media.{Lowered};
+ghost use Rattle.messages.specs.Lists.{pending};
 ghost use Rattle.node_ops.specs.CodeOf.{code-of};
+ghost use Rattle.node_ops.specs.Spans.{Spans-all-keys};
 ghost use Rattle.nodes.specs.Views.{view};
 ghost use Rattle.plan.specs.Images.{image};
 ghost use Rattle.plan.specs.Steps.{split-if-full, step};
@@ -44,6 +46,8 @@ fn split_full_child<D: Device, K: Kind>(
     ensures leaf { λ r. ⌜ (isOk r ≡ true → now (child .exit) .level ≡ 0 → vec-len (now (child .exit) .records) ≤ 240) ⌝ }
     ensures inner { λ r. ⌜ (isOk r ≡ true → 0 < now (child .exit) .level → vec-len (now (child .exit) .children) ≤ 7) ⌝ }
     ensures parent { λ _. ⌜ (now (parent .exit) .level ≡ now (parent .entry) .level) × (now (progress .exit) .«next_free» ≤ now (progress .entry) .«next_free» + 1) ⌝ }
+    ensures same { λ _. ⌜ (now (parent .exit) .low ≡ now (parent .entry) .low) × (now (parent .exit) .high ≡ now (parent .entry) .high) × (now (parent .exit) .messages ≡ now (parent .entry) .messages) ⌝ }
+    ensures some { λ r. ⌜ (isOk r ≡ true → 0 < pending (now (child .entry) .low) (now (child .entry) .high) (vec-items (now (parent .entry) .messages)) → 0 < pending (now (child .exit) .low) (now (child .exit) .high) (vec-items (now (parent .entry) .messages))) ⌝ }
 {
     if !is_full(child) {
         return Ok(at);
@@ -80,6 +84,8 @@ pub fn make_step<D: Device, K: Kind>(
     ensures inner { λ r. ⌜ (isOk r ≡ true → 0 < now (child .exit) .level → vec-len (now (child .exit) .children) ≤ 7) ⌝ }
     ensures level { λ r. ⌜ (isOk r ≡ true → now (child .exit) .level + 1 ≡ now (parent .entry) .level) ⌝ }
     ensures parent { λ _. ⌜ (now (parent .exit) .level ≡ now (parent .entry) .level) × (now (progress .exit) .«next_free» ≤ now (progress .entry) .«next_free» + 1) ⌝ }
+    ensures span { λ _. ⌜ (now (parent .exit) .low ≡ now (parent .entry) .low) × (now (parent .exit) .high ≡ now (parent .entry) .high) ⌝ }
+    ensures fewer { λ r. ⌜ (isOk r ≡ true → Spans-all-keys (view (now (parent .entry))) → 0 < vec-len (now (parent .entry) .messages) → vec-len (now (parent .exit) .messages) < vec-len (now (parent .entry) .messages)) ⌝ }
 {
     let j = busiest_child(parent);
     let at = child_block(parent, j);

@@ -23,4 +23,5 @@ returns c =
       };
       level = search needs;
       children = search needs;
+      same = search needs;
     }
