@@ -21,6 +21,7 @@ pub fn join<K: Kind>(node: &mut Node, arriving: Entry<Message>)
     ensures level { λ _. ⌜ now (node .exit) .level ≡ now (node .entry) .level ⌝ }
     ensures children { λ _. ⌜ vec-len (now (node .exit) .children) ≡ vec-len (now (node .entry) .children) ⌝ }
     ensures messages { λ _. ⌜ vec-len (now (node .exit) .messages) ≤ vec-len (now (node .entry) .messages) + 1 ⌝ }
+    ensures span { λ _. ⌜ (now (node .exit) .low ≡ now (node .entry) .low) × (now (node .exit) .high ≡ now (node .entry) .high) ⌝ }
 {
     join_message::<K>(&mut node.messages, arriving);
 }

@@ -33,6 +33,7 @@ pub fn cut_root(root: &mut Node, lower: &mut Node, upper: &mut Node, first: u32)
     ensures root { λ _. ⌜ view (now (root .exit)) ≡ new-root (getD (vec-items (now (root .entry) .pivots)) 3 0) first (view (now (root .entry))) ⌝ }
     ensures lower { λ _. ⌜ view (now (lower .exit)) ≡ lower-inner 3 (view (now (root .entry))) ⌝ }
     ensures upper { λ _. ⌜ view (now (upper .exit)) ≡ upper-inner 3 (view (now (root .entry))) ⌝ }
+    ensures span { λ _. ⌜ (now (root .exit) .low ≡ now (root .entry) .low) × (now (root .exit) .high ≡ now (root .entry) .high) ⌝ }
     ensures sizes { λ _. ⌜ (now (root .exit) .level ≡ now (root .entry) .level + 1) × (vec-len (now (root .exit) .messages) ≡ 0) × (vec-len (now (root .exit) .children) ≡ 2) ⌝ }
 {
     let pivot = split_inner(root, upper);
