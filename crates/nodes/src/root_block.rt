@@ -1,6 +1,8 @@
 // The root and its block.
 ghost use mathlib.Core.Path.{_≡_};
 ghost use mathlib.Core.Bool.{true};
+ghost use Prim.Native.Nat.{_≤_, _<_};
+ghost use Rattle.std.specs.Of.Vec.{vec-len};
 ghost use Rattle.std.specs.Results.{isOk};
 ghost use Rattle.std.specs.Vec.{made};
 ghost use Rattle.nodes.specs.Checks.{root-fault};
@@ -55,6 +57,8 @@ impl Root {
         ensures answer { λ r. ⌜ r ≡ verdict (mark-of (header-of (now (block .entry)) .mark)) (root-fault size (now (block .entry))) ⌝ }
         ensures root { λ r. ⌜ (isOk r ≡ true → view-root (now (self .exit)) ≡ root-of (now (block .entry))) ⌝ }
         ensures exact { λ r. ⌜ made r (λ mark. now (block .entry) ≡ root-block mark (view-root (now (self .exit)))) ⌝ }
+        ensures limits { λ r. ⌜ (isOk r ≡ true → (0 < now (self .exit) .node .level) × (now (self .exit) .node .level ≤ 8) × (vec-len (now (self .exit) .node .messages) ≤ 256) × (now (self .exit) .updates ≤ 4294967296)) ⌝ }
+        ensures span { λ r. ⌜ (isOk r ≡ true → (now (self .exit) .node .low ≡ 0) × (now (self .exit) .node .high ≡ 4294967296)) ⌝ }
     {
         let header = Header::read(block);
         if let Some(rule) = header.broken_root_rule(size) {

@@ -75,6 +75,7 @@ impl Header {
     pub fn broken_root_rule(&self, size: u32) -> Option<Rule>
         ensures value { λ r. ⌜ r ≡ first-broken (root-header-rules size (now (self .entry))) ⌝ }
         ensures fits { λ r. ⌜ Cases r ((now (self .entry) .count ≤ 256) × ((0 < now (self .entry) .level) × ((1 ≤ now (self .entry) .children) × (now (self .entry) .children ≤ 8)))) (λ _. Unit {0}) ⌝ }
+        ensures limits { λ r. ⌜ Cases r ((now (self .entry) .level ≤ 8) × (now (self .entry) .updates ≤ 4294967296)) (λ _. Unit {0}) ⌝ }
     {
         if self.level < 1 || self.level > MOST_LEVEL {
             return Some(Rule::Level);

@@ -6,6 +6,7 @@ ghost use Rattle.std.specs.Of.Vec.{vec-len};
 ghost use Rattle.std.specs.Results.{isOk};
 ghost use Rattle.blocks.specs.Media.{Lowered};
 ghost use Rattle.node_ops.specs.CodeOf.{code-of};
+ghost use Rattle.nodes.specs.Roots.{root-block, view-root};
 ghost use Rattle.nodes.specs.Views.{view};
 ghost use Rattle.plan.specs.Images.{image, save};
 ghost use Rattle.plan.specs.Steps.{child-low, child-high, fetch-child};
@@ -19,6 +20,8 @@ use node_ops::children::child_block;
 use node_ops::children::child_high;
 use node_ops::children::child_low;
 use nodes::node::Node;
+use nodes::root::Root;
+use rules::mark::Mark;
 
 // Reads the child at place `j` of an inner node.
 pub fn fetch_child<D: Device, K: Kind>(
@@ -62,5 +65,23 @@ pub fn save_node<D: Device, K: Kind>(
     match device.write(at, block) {
         Ok(()) => Ok(()),
         Err(fault) => Err(Cause::Device { fault, block: at }),
+    }
+}
+
+// Writes the root to block 0, under a mark.
+pub fn save_root<D: Device>(
+    device: &mut D,
+    block: &mut [u8; 4096],
+    root: &Root,
+    mark: Mark,
+) -> Result<(), Cause<D::Fault>>
+    requires { ⌜ 1 ≤ D·Device .meaning (now device) .allowance ⌝ }
+    ensures value { λ r. ⌜ tried (D·Device .number) r (image (D·Device .meaning (now (device .exit)))) (λ _. image (D·Device .meaning (now (device .exit)))) ≡ save (image (D·Device .meaning (now (device .entry)))) 0 (root-block mark (view-root (now (root .entry)))) ⌝ }
+    ensures lowered { λ _. ⌜ Lowered (D·Device .meaning (now (device .entry)) .allowance) (D·Device .meaning (now (device .exit)) .allowance) ⌝ }
+{
+    root.write(mark, block);
+    match device.write(0, block) {
+        Ok(()) => Ok(()),
+        Err(fault) => Err(Cause::Device { fault, block: 0 }),
     }
 }

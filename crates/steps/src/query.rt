@@ -1,6 +1,6 @@
 // What a key holds, and how many blocks were read to tell.
 ghost use mathlib.Core.Path.{_≡_};
-ghost use Prim.Native.Nat.{_+_, _≤_};
+ghost use Prim.Native.Nat.{_+_, _≤_, _<_};
 ghost use Rattle.std.specs.declared.option.Option.the-variants.{None};
 ghost use Rattle.messages.specs.Lists.{find as found};
 ghost use Rattle.node_ops.specs.CodeOf.{code-of};
@@ -84,4 +84,30 @@ pub fn seek_key<D: Device, K: Kind>(
         reads += 1;
     }
     Ok((act_on::<K>(met, find(&here.records, key)), reads))
+}
+
+// A query from the root on, which stays as it is.
+pub fn query_root<D: Device, K: Kind>(
+    device: &mut D,
+    block: &mut [u8; 4096],
+    next_free: u32,
+    root: &Node,
+    here: &mut Node,
+    child: &mut Node,
+    key: u32,
+) -> Result<(Option<u64>, u32), Cause<D::Fault>>
+    requires { ⌜ (0 < now root .level) × (now root .level ≤ 8) ⌝ }
+    ensures value { λ r. ⌜ tried (D·Device .number) r (image (D·Device .meaning (now (device .exit)))) (λ a. record { image = image (D·Device .meaning (now (device .exit))); value = a .0; reads = a .1 }) ≡ seek (code-of (K·Kind .algebra)) (now (root .entry) .level) (image (D·Device .meaning (now (device .entry)))) «next_free» (view (now (root .entry))) key None 0 ⌝ }
+    ensures allowance { λ _. ⌜ D·Device .meaning (now (device .exit)) .allowance ≡ D·Device .meaning (now (device .entry)) .allowance ⌝ }
+{
+    let met = match judge::<K>(root, key, None) {
+        Verdict::Settled(value) => return Ok((value, 0)),
+        Verdict::Down(met) => met,
+    };
+    let j = child_for(root, key);
+    match fetch_child::<D, K>(device, block, next_free, root, j, here) {
+        Ok(()) => {}
+        Err(cause) => return Err(cause),
+    }
+    seek_key::<D, K>(device, block, next_free, here, child, key, met, 1)
 }

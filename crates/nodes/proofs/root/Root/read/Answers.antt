@@ -8,6 +8,9 @@ use Rattle.nodes.specs.Roots.{root-by, root-of}
 use Rattle.rules.specs.Rules.{first-broken}
 use Rattle.nodes.proofs.Loaded.{bad-header, bad-tables, none-bad, not-ok}
 use Rattle.nodes.proofs.RoundTrips.{root-exact}
+use native.Mathlib.Omega.{arith}
+use Rattle.rules.specs.declared.place.Place.{Place}
+use Rattle.tree.specs.Nodes.{Node}
 use Rattle.nodes.proofs.root.Root.read.Needs as need
 use Rattle.nodes.proofs.root.Root.read.Needs.{After-read-header}
 
@@ -20,7 +23,7 @@ unfolding root-fault
 returns-in-Some c =
     let bs = c .args .block .now in
     let is = read (need.at·returns-in-Some c .After-read-header) in
-    record { answer = bad-header (mark-of (header-of bs .mark)) (root-header-rules (c .args .size)) (λ h. table-rules (root-place h) h bs) bs (c .read-header .result) is (c .in-Some .rule) (c .in-Some .ensures tt .value); root = not-ok; exact = tt }
+    record { answer = bad-header (mark-of (header-of bs .mark)) (root-header-rules (c .args .size)) (λ h. table-rules (root-place h) h bs) bs (c .read-header .result) is (c .in-Some .rule) (c .in-Some .ensures tt .value); root = not-ok; exact = tt; limits = not-ok; span = not-ok }
 
 pub returns-in-Some-load : need.returns-in-Some-load
 unfolding root-fault
@@ -34,6 +37,8 @@ returns-in-Some-load c =
           (c .in-Some-load .ensures tt .fault ∙ ap (λ p. first-broken (table-rules p h bs)) (c .root-place .ensures));
       root = not-ok;
       exact = tt;
+      limits = not-ok;
+      span = not-ok;
     }
 
 pub returns-in-None : need.returns-in-None
@@ -49,4 +54,7 @@ returns-in-None c =
     ∙ none-bad (mark-of (header-of bs .mark)) (root-header-rules (c .args .size)) (λ h. table-rules (root-place h) h bs) bs h is (c .in-rest .ensures tt .value)
     (c .in-None .ensures tt .fault ∙ ap (λ p. first-broken (table-rules p h bs)) (c .root-place .ensures)) in
     let root : _ ≡ root-of bs = (λ i. record { node = node i; kind = h .kind; next-free = h .«next_free»; updates = h .updates; tree-writes = h .«tree_writes» }) ∙ ap (λ x. root-by x bs) is in
-    record { answer = answer; root = λ e. root; exact = root-exact (c .args .size) bs (c .root-mark .result) _ (c .told-block) (c .fits-block) answer mark root }
+    let level = c .load .ensures .sizes .0 ∙ ap (λ (p : Place). p .level) (c .root-place .ensures) in
+    let fits = c .in-rest .ensures tt .fits in
+    let most = c .in-rest .ensures tt .limits in
+    record { answer = answer; root = λ e. root; exact = root-exact (c .args .size) bs (c .root-mark .result) _ (c .told-block) (c .fits-block) answer mark root; limits = λ e. (omega (arith, level, fits .1 .0), omega (arith, level, most .0), c .load .ensures .sizes .1, most .1); span = λ e. (ap (λ (x : Node). x .frame .low) node, ap (λ (x : Node). x .frame .high) node) }
