@@ -7,7 +7,6 @@ use Prim.Native.Nat.{ℕ, suc, _^_, _≤_, _<_}
 use native.Mathlib.Omega.{arith}
 use lib.Dec.{eqb, leb}
 use lib.ListN.{length, take, getD, take-append-drop}
-use Rattle.std.specs.declared.option.Option.{Option}
 use Rattle.std.specs.declared.option.Option.the-variants.{Some, None}
 use Rattle.std.specs.declared.result.Result.{Result}
 use Rattle.std.specs.declared.result.Result.the-variants.{Ok}
@@ -28,6 +27,7 @@ use Rattle.nodes.specs.Laws.{Block, Fits-place, Good-node, Good-root, place-of
 use Rattle.rules.specs.Marks.{mark-of, mark-number}
 use Rattle.nodes.specs.Roots.{Root, root-header, root-block, root-by, root-of}
 use Rattle.rules.specs.Rules.{first-broken}
+use Rattle.rules.proofs.Verdicts.{verdict-ok}
 use Rattle.nodes.proofs.Loaded.{first-none}
 use Rattle.nodes.proofs.TablesBack.{all-passed, tables-back, tables-forth, unused-forth, count-forth, children-forth}
 
@@ -221,13 +221,9 @@ all-bytes : (bs : List ℕ) → ((i : ℕ) → getD bs i 0 < 256) → Bytes bs
 all-bytes [] f = tt
 all-bytes (b ∷ bs) f = (f 0, all-bytes bs (λ i. f (suc i)))
 
-ok-none : {A : Type 0} (a b : A) (o : Option Rule) → Ok b ≡ verdict a o → o ≡ None
-ok-none a b None e = refl
-ok-none a b (Some r) e = let z : _≡_ {A = ℕ} 0 1 = cc in absurd (omega arith)
-
 pub node-exact : (p : Place) (bs : List ℕ) (x : Node) → length bs ≡ 4096 → ((i : ℕ) → getD bs i 0 < 256) → _≡_ {A = Result (Unit {0}) Rule} (Ok tt) (verdict tt (node-fault p bs)) → x ≡ node-of p (header-of bs) bs → bs ≡ node-block (p .kind) x
-node-exact p bs x long bytes ok is = sym (block-back p bs (long, all-bytes bs bytes) (ok-none (tt {0}) (tt {0}) (node-fault p bs) ok)) ∙ ap (node-block (p .kind)) (sym is)
+node-exact p bs x long bytes ok is = sym (block-back p bs (long, all-bytes bs bytes) (verdict-ok (tt {0}) (tt {0}) (node-fault p bs) ok)) ∙ ap (node-block (p .kind)) (sym is)
 
 pub root-exact : (size : ℕ) (bs : List ℕ) (mark : Mark) (x : Root) → length bs ≡ 4096 → ((i : ℕ) → getD bs i 0 < 256) → Ok mark ≡ verdict (mark-of (header-of bs .mark)) (root-fault size bs) → mark ≡ mark-of (header-of bs .mark) → x ≡ root-of bs → bs ≡ root-block mark x
 root-exact size bs mark x long bytes ok marked is =
-    sym (root-block-back size bs (long, all-bytes bs bytes) (ok-none (mark-of (header-of bs .mark)) mark (root-fault size bs) ok)) ∙ (λ i. root-block (sym marked i) (sym is i))
+    sym (root-block-back size bs (long, all-bytes bs bytes) (verdict-ok (mark-of (header-of bs .mark)) mark (root-fault size bs) ok)) ∙ (λ i. root-block (sym marked i) (sym is i))
