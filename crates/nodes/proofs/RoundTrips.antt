@@ -5,13 +5,12 @@ use mathlib.Core.List.{List, [], _∷_, _++_}
 use mathlib.Core.Logic.{⊎-elim}
 use Prim.Native.Nat.{ℕ, suc, _^_, _≤_, _<_}
 use native.Mathlib.Omega.{arith}
-use lib.Dec.{eqb, leb}
+use lib.Dec.{eqb, leb, ltb}
 use lib.ListN.{length, take, getD, take-append-drop}
-use Rattle.std.specs.declared.option.Option.{Option}
 use Rattle.std.specs.declared.option.Option.the-variants.{Some, None}
 use Rattle.std.specs.declared.result.Result.{Result}
 use Rattle.std.specs.declared.result.Result.the-variants.{Ok}
-use Rattle.std.proofs.shelf.Tests.{and-parts, and-from, eqb-true, leb-true, eqb-false, eq-eqb, le-leb, lt-ltb, cases-eq}
+use Rattle.std.proofs.shelf.Tests.{and-parts, and-from, eqb-true, leb-true, eqb-false, eq-eqb, le-leb, lt-ltb, ltb-true, cases-eq}
 use Rattle.rows.specs.Bytes.{Bytes}
 use Rattle.tree.specs.Nodes.{Node}
 use Rattle.rules.specs.declared.header.Header.{Header}
@@ -28,8 +27,9 @@ use Rattle.nodes.specs.Laws.{Block, Fits-place, Good-node, Good-root, place-of
 use Rattle.rules.specs.Marks.{mark-of, mark-number}
 use Rattle.nodes.specs.Roots.{Root, root-header, root-block, root-by, root-of}
 use Rattle.rules.specs.Rules.{first-broken}
+use Rattle.rules.proofs.Verdicts.{verdict-ok}
 use Rattle.nodes.proofs.Loaded.{first-none}
-use Rattle.nodes.proofs.TablesBack.{all-passed, tables-back, tables-forth, unused-forth, count-forth, children-forth}
+use Rattle.nodes.proofs.TablesBack.{all-passed, tables-back, tables-forth, unused-forth, count-forth, children-forth, fits-forth}
 
 -- the header of a block that begins with its encoding
 header-back : (h : Header) (more : List ℕ) → header-coding .fits h ≡ true → header-of (header-coding .encode h ++ more) ≡ h
@@ -44,6 +44,20 @@ header-forth bs block = header-coding .encode-decode bs (omega (arith, block .0)
 header-fits : (bs : List ℕ) → Bytes bs → header-coding .fits (header-of bs) ≡ true
 unfolding header-of
 header-fits bs bytes = header-coding .decode-fits bs bytes
+
+-- the numbers of a header that fits: its level, kind, next free number and tree writes
+header-widths : (h : Header) → header-coding .fits h ≡ true → (h .level < 256) × (h .kind < 256) × (h .«next_free» < 256 ^ 4) × (h .«tree_writes» < 256 ^ 8)
+header-widths h f =
+    let a = and-parts (ltb (h .level) 256) _ f in
+    let b = and-parts (ltb (h .mark) 256) _ (a .1) in
+    let c = and-parts (ltb (h .count) 65536) _ (b .1) in
+    let d = and-parts (ltb (h .children) 256) _ (c .1) in
+    let e = and-parts (ltb (h .kind) 256) _ (d .1) in
+    let u = and-parts (ltb (h .unused) 65536) _ (e .1) in
+    let n = and-parts (ltb (h .«next_free») (256 ^ 4)) _ (u .1) in
+    let g = and-parts (ltb (h .gap) (256 ^ 4)) _ (n .1) in
+    let w = and-parts (ltb (h .updates) (256 ^ 8)) (ltb (h .«tree_writes») (256 ^ 8)) (g .1) in
+    (ltb-true (h .level) 256 (a .0), ltb-true (h .kind) 256 (e .0), ltb-true (h .«next_free») (256 ^ 4) (n .0), ltb-true (h .«tree_writes») (256 ^ 8) (w .1))
 
 -- where no rule is broken, the rules of the header and those of the tables are kept
 parts-none : (ts us : List (Bool × Rule)) → first-broken (ts ++ us) ≡ None → (first-broken ts ≡ None) × (first-broken us ≡ None)
@@ -131,6 +145,20 @@ module _ (p : Place) (bs : List ℕ) (block : Block bs) (fine : node-fault p bs 
       }) in
       (λ i. (ap (header-coding .encode) same ∙ header-forth bs block) i ++ tables-forth p h bs block few (shape .1) (parts .1) i) ∙ take-append-drop 32 bs
 
+  pub node-good : Good-node p (node-of p (header-of bs) bs)
+  node-good =
+      let h = header-of bs in
+      let t = all-passed (header-rules p h) (parts .0) in
+      let few = leb-true (h .count) 256 (t .1 .1 .0) in
+      let shape = children-shape (p .level) (h .children) (t .1 .1 .1 .0) in
+      let widths = header-widths h (header-fits bs (block .1)) in
+      record {
+        tables = fits-forth p h bs block few (shape .1) (parts .1);
+        children = ap (children-fit (p .level)) (children-forth p h bs (shape .0)) ∙ t .1 .1 .1 .0;
+        level-fits = subst (λ (n : ℕ). n < 256) (eqb-true (h .level) (p .level) (t .0)) (widths .0);
+        kind-fits = subst (λ (n : ℕ). n < 256) (eqb-true (h .kind) (p .kind) (t .1 .1 .1 .1 .0)) (widths .1);
+      }
+
 -- ---- the root
 module _ (size : ℕ) (mark : Mark) (x : Root) (good : Good-root size x) where
   root-block-is : root-block mark x ≡ header-coding .encode (root-header mark x) ++ tables-of (x .node)
@@ -210,24 +238,41 @@ module _ (size : ℕ) (bs : List ℕ) (block : Block bs) (fine : root-fault size
       }) in
       (λ i. (ap (header-coding .encode) same ∙ header-forth bs block) i ++ tables-forth p h bs block few (λ above. shape) (root-parts .1) i) ∙ take-append-drop 32 bs
 
+  pub root-good : Good-root size (root-of bs)
+  root-good =
+      let h = header-of bs in
+      let p = root-place h in
+      let t = all-passed (root-header-rules size h) (root-parts .0) in
+      let least = leb-true 1 (h .level) (and-parts (leb 1 (h .level)) (leb (h .level) 8) (t .0) .0) in
+      let few = leb-true (h .count) 256 (t .1 .1 .0) in
+      let shape = root-shape (h .level) (h .children) (t .1 .1 .1 .0) in
+      let numbers = and-parts (within 2 size (h .«next_free»)) (leb (h .updates) 4294967296) (t .1 .1 .1 .1 .0) in
+      let widths = header-widths h (header-fits bs (block .1)) in
+      record {
+        tables = fits-forth p h bs block few (λ above. shape) (root-parts .1);
+        level = t .0;
+        children = ap (root-children-fit (h .level)) (children-forth p h bs (λ (e : h .level ≡ 0). absurd (omega (arith, least, e)))) ∙ t .1 .1 .1 .0;
+        next-free = numbers .0;
+        updates = leb-true (h .updates) 4294967296 (numbers .1);
+        next-free-fits = widths .2;
+        tree-writes-fit = widths .3;
+        kind-fits = widths .1;
+      }
+
 pub node-blocks-round-trip : Node-blocks-round-trip
-node-blocks-round-trip = record { node-back = node-back; block-back = block-back }
+node-blocks-round-trip = record { node-back = node-back; block-back = block-back; node-good = node-good }
 
 pub root-blocks-round-trip : Root-blocks-round-trip
-root-blocks-round-trip = record { root-back = root-back; block-back = root-block-back }
+root-blocks-round-trip = record { root-back = root-back; block-back = root-block-back; root-good = root-good }
 
 -- ---- what a successful read says of the block
 all-bytes : (bs : List ℕ) → ((i : ℕ) → getD bs i 0 < 256) → Bytes bs
 all-bytes [] f = tt
 all-bytes (b ∷ bs) f = (f 0, all-bytes bs (λ i. f (suc i)))
 
-ok-none : {A : Type 0} (a b : A) (o : Option Rule) → Ok b ≡ verdict a o → o ≡ None
-ok-none a b None e = refl
-ok-none a b (Some r) e = let z : _≡_ {A = ℕ} 0 1 = cc in absurd (omega arith)
-
 pub node-exact : (p : Place) (bs : List ℕ) (x : Node) → length bs ≡ 4096 → ((i : ℕ) → getD bs i 0 < 256) → _≡_ {A = Result (Unit {0}) Rule} (Ok tt) (verdict tt (node-fault p bs)) → x ≡ node-of p (header-of bs) bs → bs ≡ node-block (p .kind) x
-node-exact p bs x long bytes ok is = sym (block-back p bs (long, all-bytes bs bytes) (ok-none (tt {0}) (tt {0}) (node-fault p bs) ok)) ∙ ap (node-block (p .kind)) (sym is)
+node-exact p bs x long bytes ok is = sym (block-back p bs (long, all-bytes bs bytes) (verdict-ok (tt {0}) (tt {0}) (node-fault p bs) ok)) ∙ ap (node-block (p .kind)) (sym is)
 
 pub root-exact : (size : ℕ) (bs : List ℕ) (mark : Mark) (x : Root) → length bs ≡ 4096 → ((i : ℕ) → getD bs i 0 < 256) → Ok mark ≡ verdict (mark-of (header-of bs .mark)) (root-fault size bs) → mark ≡ mark-of (header-of bs .mark) → x ≡ root-of bs → bs ≡ root-block mark x
 root-exact size bs mark x long bytes ok marked is =
-    sym (root-block-back size bs (long, all-bytes bs bytes) (ok-none (mark-of (header-of bs .mark)) mark (root-fault size bs) ok)) ∙ (λ i. root-block (sym marked i) (sym is i))
+    sym (root-block-back size bs (long, all-bytes bs bytes) (verdict-ok (mark-of (header-of bs .mark)) mark (root-fault size bs) ok)) ∙ (λ i. root-block (sym marked i) (sym is i))

@@ -21,7 +21,7 @@ use Rattle.rows.specs.Bytes.{Bytes, bytes-of, number-of, all-zero, padded}
 use Rattle.rows.specs.Coding.{Coding, number}
 use Rattle.rows.specs.Entries.{record-coding, message-entry-coding, message-coding, message-number, message-word, number-and-word, known, exact}
 use Rattle.rows.specs.Tables.{rows-of, table-of, values-of, all-rows}
-use Rattle.rows.proofs.Tables.{length-rows, length-table, length-values, table-back, table-end, values-back, all-rows-pass}
+use Rattle.rows.proofs.Tables.{length-rows, length-table, length-values, table-back, table-end, values-back, values-fit, all-rows-pass}
 use Rattle.tree.specs.Nodes.{Node}
 use Rattle.rules.specs.declared.header.Header.{Header}
 use Rattle.rules.specs.declared.place.Place.{Place}
@@ -204,6 +204,69 @@ module _ (p : Place) (h : Header) (bs : List ℕ) (block : Block bs) (few : h .c
       let t = all-passed (inner-rules p h bs) (subst (λ (b : Bool). first-broken (cond b (leaf-rules p h bs) (inner-rules p h bs)) ≡ None) (ne-eqb (p .level) 0 inner) fine) in
       and-parts (unused-zero h) _ (t .1 .1 .1 .0) .0)
       (cases-eq (p .level) 0)
+
+  leaf-fits : p .level ≡ 0 → Fits-place p (node-of p h bs)
+  leaf-fits leaf =
+      let zero-level = eq-eqb (p .level) 0 leaf in
+      let t = all-passed (leaf-rules p h bs) (subst (λ (b : Bool). first-broken (cond b (leaf-rules p h bs) (inner-rules p h bs)) ≡ None) zero-level fine) in
+      let x : Node = record { frame = record { level = p .level; low = p .low; high = p .high; pivots = []; children = [] }; messages = []; records = records-of h bs } in
+      let is : x ≡ node-of p h bs = rw zero-level refl in
+      let many = length-values record-coding (h .count) (between 32 4096 bs) in
+      let good : Fits-place p x
+      = record {
+        level-is = refl;
+        low-is = refl;
+        high-is = refl;
+        few = rw zero-level (omega (arith, many, few));
+        few-children = omega arith;
+        leaf-plain = λ e. (refl, refl, refl);
+        inner-plain = λ (above : 0 < p .level). absurd (omega (arith, leaf, above));
+        pivots-between = λ (above : 0 < p .level). absurd (omega (arith, leaf, above));
+        pivots-rise = refl;
+        children-below = refl;
+        messages-rise = refl;
+        records-rise = and-parts (rising (p .low) (p .high) (map (λ e. e .key) (records-of h bs))) _ (t .0) .0;
+        pivots-fit = tt;
+        children-fit = tt;
+        messages-fit = tt;
+        records-fit = values-fit record-coding (h .count) (between 32 4096 bs) (bytes-at 32 4064);
+      } in
+      subst (Fits-place p) is good
+
+  inner-fits : (p .level ≡ 0 → ⊥) → Fits-place p (node-of p h bs)
+  inner-fits inner =
+      let not-zero = ne-eqb (p .level) 0 inner in
+      let above : 0 < p .level = omega (arith, inner) in
+      let eight = shape above in
+      let t = all-passed (inner-rules p h bs) (subst (λ (b : Bool). first-broken (cond b (leaf-rules p h bs) (inner-rules p h bs)) ≡ None) not-zero fine) in
+      let x : Node = record { frame = record { level = p .level; low = p .low; high = p .high; pivots = pivots-of h bs; children = children-of h bs }; messages = messages-of h bs; records = [] } in
+      let is : x ≡ node-of p h bs = rw not-zero refl in
+      let many = length-values message-entry-coding (h .count) (between 92 4096 bs) in
+      let pivots = length-values (number 4) (h .children - 1) (between 32 60 bs) in
+      let kids = length-values (number 4) (h .children) (between 60 92 bs) in
+      let good : Fits-place p x
+      = record {
+        level-is = refl;
+        low-is = refl;
+        high-is = refl;
+        few = rw not-zero (omega (arith, many, few));
+        few-children = omega (arith, kids, eight .1);
+        leaf-plain = λ (leaf : p .level ≡ 0). absurd (inner leaf);
+        inner-plain = λ e. refl;
+        pivots-between = λ e. omega (arith, pivots, kids, eight .0);
+        pivots-rise = t .0;
+        children-below = t .1 .0;
+        messages-rise = and-parts (rising (p .low) (p .high) (map (λ e. e .key) (messages-of h bs))) _ (t .1 .1 .0) .0;
+        records-rise = refl;
+        pivots-fit = values-fit (number 4) (h .children - 1) (between 32 60 bs) (bytes-at 32 28);
+        children-fit = values-fit (number 4) (h .children) (between 60 92 bs) (bytes-at 60 32);
+        messages-fit = values-fit message-entry-coding (h .count) (between 92 4096 bs) (bytes-at 92 4004);
+        records-fit = tt;
+      } in
+      subst (Fits-place p) is good
+
+  pub fits-forth : Fits-place p (node-of p h bs)
+  fits-forth = ⊎-elim leaf-fits inner-fits (cases-eq (p .level) 0)
 
 -- the sizes of a node are those that the header says
 pub count-forth : (p : Place) (h : Header) (bs : List ℕ) → count-of (node-of p h bs) ≡ h .count

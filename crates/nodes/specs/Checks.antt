@@ -38,6 +38,7 @@ inner-rules p h bs =
     )
     ∷ []
 
+-- the rules on the tables of a node
 abbrev pub table-rules : Place → Header → List ℕ → List (Bool × Rule)
 table-rules p h bs = cond (eqb (p .level) 0) (leaf-rules p h bs) (inner-rules p h bs)
 

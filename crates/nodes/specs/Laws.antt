@@ -69,12 +69,14 @@ pub record Good-root (size : ℕ) (x : Root) : Type 0 where
   pub tree-writes-fit : x .tree-writes < 256 ^ 8
   pub kind-fits : x .kind < 256
 
--- a good node is read back from its block, and a block that breaks no rule is that of the node read from it
+-- a good node is read back from its block, and a block that breaks no rule is that of the node read from it, which is good
 pub record Node-blocks-round-trip : Type 0 where
   pub node-back : (p : Place) (x : Node) → Good-node p x → (node-fault p (node-block (p .kind) x) ≡ None) × (node-of p (header-of (node-block (p .kind) x)) (node-block (p .kind) x) ≡ x)
   pub block-back : (p : Place) (bs : List ℕ) → Block bs → node-fault p bs ≡ None → node-block (p .kind) (node-of p (header-of bs) bs) ≡ bs
+  pub node-good : (p : Place) (bs : List ℕ) → Block bs → node-fault p bs ≡ None → Good-node p (node-of p (header-of bs) bs)
 
 -- the same of the root, whatever its mark
 pub record Root-blocks-round-trip : Type 0 where
   pub root-back : (size : ℕ) (mark : Mark) (x : Root) → Good-root size x → (root-fault size (root-block mark x) ≡ None) × (root-of (root-block mark x) ≡ x) × (mark-of (header-of (root-block mark x) .mark) ≡ mark)
   pub block-back : (size : ℕ) (bs : List ℕ) → Block bs → root-fault size bs ≡ None → root-block (mark-of (header-of bs .mark)) (root-of bs) ≡ bs
+  pub root-good : (size : ℕ) (bs : List ℕ) → Block bs → root-fault size bs ≡ None → Good-root size (root-of bs)

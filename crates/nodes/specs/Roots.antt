@@ -13,6 +13,7 @@ use Rattle.rules.specs.declared.header.Header.{Header}
 use Rattle.rules.specs.declared.mark.Mark.{Mark}
 use Rattle.nodes.specs.declared.root.Root.{Root as RootInMemory}
 
+-- the root's node, and the numbers that only its block has
 pub record Root : Type 0 where
   pub node : Node
   pub kind : ℕ
@@ -24,6 +25,7 @@ pub record Root : Type 0 where
 abbrev pub view-root : RootInMemory → Root
 view-root x = record { node = view (x .node); kind = x .kind; next-free = x .«next_free»; updates = x .updates; tree-writes = x .«tree_writes» }
 
+-- the header of the root
 abbrev pub root-header : Mark → Root → Header
 root-header mark x = record {
   level = x .node .frame .level;
@@ -50,6 +52,7 @@ root-by h bs = record { node = node-of (root-place h) h bs; kind = h .kind; next
 abbrev pub root-of : List ℕ → Root
 root-of bs = root-by (header-of bs) bs
 
+-- a leaf without records
 abbrev pub empty-leaf : ℕ → ℕ → Node
 empty-leaf low high = record { frame = record { level = 0; low = low; high = high; pivots = []; children = [] }; messages = []; records = [] }
 

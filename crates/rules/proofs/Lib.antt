@@ -1,1 +1,3 @@
 pub mod Passes
+pub mod Verdicts
+pub mod Fields

@@ -9,6 +9,7 @@ abbrev numbers : Coding (ℕ × (ℕ × (ℕ × (ℕ × (ℕ × (ℕ × (ℕ × 
 numbers =
     pair (number 1) (pair (number 1) (pair (number 2) (pair (number 1) (pair (number 1) (pair (number 2) (pair (number 4) (pair (number 4) (pair (number 8) (number 8)))))))))
 
+-- a header: its numbers, one behind the other
 abbrev pub header-coding : Coding Header
 header-coding =
     like

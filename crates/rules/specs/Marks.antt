@@ -5,6 +5,7 @@ use lib.Dec.{eqb}
 use Rattle.rules.specs.declared.mark.Mark.{Mark}
 use Rattle.rules.specs.declared.mark.Mark.the-variants.{Closed, InUse}
 
+-- the byte that stands for a mark
 abbrev pub mark-number : Mark → ℕ
 mark-number Closed = 1
 mark-number InUse = 2

@@ -7,6 +7,7 @@ use Rattle.std.specs.declared.option.Option.the-variants.{Some, None}
 use Rattle.rules.specs.declared.rule.Rule.{Rule}
 use Rattle.rules.specs.declared.rule.Rule.the-variants.{Level, Mark, Count, Children, Kind, HeaderNumbers, Pivots, ChildNumbers, Keys, Unused}
 
+-- the number of a rule, in the order in which they are told
 abbrev pub rule-number : Rule → ℕ
 rule-number Level = 1
 rule-number Mark = 2

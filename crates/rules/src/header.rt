@@ -25,58 +25,6 @@ pub struct Header {
     pub tree_writes: u64,
 }
 
-impl Header {
-    // The numbers in their order, each the highest byte first.
-    fn bytes(&self) -> [u8; 32]
-        ensures { λ r. ⌜ r ≡ header-coding .encode (now (self .entry)) ⌝ }
-    {
-        let level = self.level.to_be_bytes();
-        let mark = self.mark.to_be_bytes();
-        let c = self.count.to_be_bytes();
-        let children = self.children.to_be_bytes();
-        let kind = self.kind.to_be_bytes();
-        let z = self.unused.to_be_bytes();
-        let n = self.next_free.to_be_bytes();
-        let g = self.gap.to_be_bytes();
-        let u = self.updates.to_be_bytes();
-        let w = self.tree_writes.to_be_bytes();
-        [
-            level[0],
-            mark[0],
-            c[0],
-            c[1],
-            children[0],
-            kind[0],
-            z[0],
-            z[1],
-            n[0],
-            n[1],
-            n[2],
-            n[3],
-            g[0],
-            g[1],
-            g[2],
-            g[3],
-            u[0],
-            u[1],
-            u[2],
-            u[3],
-            u[4],
-            u[5],
-            u[6],
-            u[7],
-            w[0],
-            w[1],
-            w[2],
-            w[3],
-            w[4],
-            w[5],
-            w[6],
-            w[7],
-        ]
-    }
-}
-
 pub impl Row for Header as HeaderRow {
     ghost coding = { header-coding };
 
@@ -85,7 +33,16 @@ pub impl Row for Header as HeaderRow {
     }
 
     fn write(self, row: &mut [u8]) {
-        row.copy_from_slice(&self.bytes());
+        self.level.write(&mut row[0..1]);
+        self.mark.write(&mut row[1..2]);
+        self.count.write(&mut row[2..4]);
+        self.children.write(&mut row[4..5]);
+        self.kind.write(&mut row[5..6]);
+        self.unused.write(&mut row[6..8]);
+        self.next_free.write(&mut row[8..12]);
+        self.gap.write(&mut row[12..16]);
+        self.updates.write(&mut row[16..24]);
+        self.tree_writes.write(&mut row[24..32]);
     }
 
     fn read(bytes: &[u8]) -> Header {
