@@ -1,0 +1,4 @@
+pub mod Refusals
+pub mod Media
+pub mod Memory
+pub mod Faulty

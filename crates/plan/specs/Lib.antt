@@ -1,0 +1,4 @@
+pub mod Images
+pub mod Codes
+pub mod Steps
+pub mod Queries
