@@ -1,8 +1,6 @@
 -- How nodes stand in blocks.
-use mathlib.Core.Path.{_≡_}
 use mathlib.Core.List.{List}
 use Prim.Native.Nat.{ℕ}
-use lib.ListN.{length}
 use Rattle.std.specs.declared.option.Option.{Option}
 use Rattle.messages.specs.Algebra.{Algebra}
 use Rattle.messages.specs.declared.entry.Entry.{Entry}
@@ -19,7 +17,6 @@ pub record Code : Type 0 where
   pub children : ℕ → List ℕ → List ℕ
   pub messages : ℕ → List ℕ → List (Entry Message)
   pub records : ℕ → List ℕ → List (Entry ℕ)
-  pub whole : (x : Node) → length (encode x) ≡ 4096
 
 -- the node that a block says
 abbrev pub decoded : Code → ℕ → ℕ → ℕ → List ℕ → Node
