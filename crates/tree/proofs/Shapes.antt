@@ -23,13 +23,13 @@ use Rattle.tree.proofs.Move.{inner-sound, leaf-sound}
 use Rattle.tree.proofs.Plain.{Plain, all-plain}
 use Rattle.tree.proofs.Real.{at-shape}
 
-children-rising : (a : List Node) (l low high : ℕ) (cs ps : List ℕ) → Children a l low high cs ps → Rising low high ps
+pub children-rising : (a : List Node) (l low high : ℕ) (cs ps : List ℕ) → Children a l low high cs ps → Rising low high ps
 children-rising a l low high [] ps h = absurd h
 children-rising a l low high (c ∷ []) [] h = tt
 children-rising a l low high (c ∷ d ∷ cs) [] h = absurd h
 children-rising a l low high (c ∷ cs) (r ∷ ps) h = (h .0 .nonempty, children-some a l r high cs ps (h .1), children-rising a l r high cs ps (h .1))
 
-child-at : (a : List Node) (l low high : ℕ) (cs ps : List ℕ) (j : ℕ) → Children a l low high cs ps → j < length cs → Child a l (getD cs j 0) (getD (low ∷ ps) j 0) (getD ps j high)
+pub child-at : (a : List Node) (l low high : ℕ) (cs ps : List ℕ) (j : ℕ) → Children a l low high cs ps → j < length cs → Child a l (getD cs j 0) (getD (low ∷ ps) j 0) (getD ps j high)
 child-at a l low high [] ps j h g = absurd h
 child-at a l low high (c ∷ []) [] zero h g = h
 child-at a l low high (c ∷ []) [] (suc j) h g = absurd (omega arith)
@@ -37,7 +37,7 @@ child-at a l low high (c ∷ d ∷ cs) [] j h g = absurd h
 child-at a l low high (c ∷ cs) (r ∷ ps) zero h g = h .0
 child-at a l low high (c ∷ cs) (r ∷ ps) (suc j) h g = child-at a l r high cs ps j (h .1) (omega arith)
 
-good-child : (a : List Node) (l : ℕ) (f : Frame) (j : ℕ) → f .level ≡ suc l → Children a l (f .low) (f .high) (f .children) (f .pivots) → j < length (f .children) → Good-child a f j
+pub good-child : (a : List Node) (l : ℕ) (f : Frame) (j : ℕ) → f .level ≡ suc l → Children a l (f .low) (f .high) (f .children) (f .pivots) → j < length (f .children) → Good-child a f j
 good-child a l f j e h g =
     let c = child-at a l (f .low) (f .high) (f .children) (f .pivots) j h g in
     record { not-root = c .not-root; taken = c .inside; one-lower = omega (arith, c .level-is); from = c .from; upto = c .upto }

@@ -1,0 +1,63 @@
+-- The laws of blocks that hold a tree: what is done to the blocks is what is done to the tree. Each is the contract of a function in src/lib.rt.
+use mathlib.Core.Path.{_≡_}
+use mathlib.Core.List.{List}
+use Prim.Native.Nat.{ℕ, _+_, _%_, _^_, _≤_, _<_}
+use Rattle.std.specs.declared.option.Option.the-variants.{None}
+use Rattle.blocks.specs.Media.{most-blocks}
+use Rattle.messages.specs.declared.entry.Entry.{Entry}
+use Rattle.messages.specs.declared.message.Message.{Message}
+use Rattle.plan.specs.Codes.{Code}
+use Rattle.plan.specs.Images.{Image, Try}
+use Rattle.plan.specs.Images.Try.{done}
+use Rattle.plan.specs.Queries.{Answered, seek}
+use Rattle.plan.specs.Steps.{Settled, updated}
+use Rattle.tree.specs.Laws.{Keys}
+use Rattle.tree.specs.Nodes.{Node, node, height, next-free}
+use Rattle.tree.specs.Query.{query}
+use Rattle.tree.specs.Update.{raised, update, writes, grown}
+use Rattle.bridge.specs.Stored.{most-levels, Word-fits, Round-trip, Stored}
+use Rattle.bridge.specs.Work.{All-sound, Work, update-reads}
+
+-- ---- an update
+-- an update of a tree has room on a device: blocks for a full way down, and levels for a new root
+pub record Room (d : Image) (a : List Node) : Type 0 where
+  pub blocks : next-free a + (height a + 1) ≤ d .size
+  pub size-fits : d .size ≤ most-blocks
+  pub levels : height (raised a) ≤ most-levels
+
+-- what comes of an update of the tree a on the image d, with w tree writes before: the updated tree, and just its reads and writes
+pub record Updated (C : Code) (d : Image) (w : ℕ) (a : List Node) (k : ℕ) (m : Message) (s : Settled) : Type 0 where
+  pub root-is : s .root ≡ node (update (C .algebra) k m a) 0
+  pub next-is : s .next ≡ next-free (update (C .algebra) k m a)
+  pub tree-writes-rise : s .writes ≡ (w + writes (C .algebra) k m a) % 2 ^ 64
+  pub stored : Stored C (s .image) (update (C .algebra) k m a)
+  pub work : Work d (s .image) (update-reads (C .algebra) k m a) (writes (C .algebra) k m a) (next-free (update (C .algebra) k m a))
+
+pub record Update-carries-over (C : Code) (d : Image) (w : ℕ) (a : List Node) (k : ℕ) (m : Message) : Type 0 where
+  pub accepted : (s : Settled) → updated C d (next-free a) w (node a 0) k m ≡ done s → Updated C d w a k m s
+  pub never-stops : All-sound d → (s : Settled) × (updated C d (next-free a) w (node a 0) k m ≡ done s)
+
+abbrev pub Update-bridge : Type 0
+Update-bridge = (C : Code) → Round-trip C → (h : List (Entry Message)) → Keys h → let a = grown (C .algebra) h in
+    (d : Image) (w : ℕ) → Stored C d a → w < 2 ^ 64 → Room d a → (k : ℕ) (m : Message) → k < 2 ^ 32 → Word-fits m → Update-carries-over C d w a k m
+
+-- ---- a query
+-- what comes of a query of the tree a on the image d: what the tree holds for the key, and just the blocks read for it
+pub record Found (C : Code) (d : Image) (a : List Node) (k : ℕ) (s : Answered) : Type 0 where
+  pub value-is : s .value ≡ query (C .algebra) a k .value
+  pub reads-are : s .reads ≡ query (C .algebra) a k .reads
+  pub work : Work d (s .image) (query (C .algebra) a k .reads) 0 0
+
+pub record Query-carries-over (C : Code) (d : Image) (a : List Node) (k : ℕ) : Type 0 where
+  pub accepted : (s : Answered) → seek C (height a) d (next-free a) (node a 0) k None 0 ≡ done s → Found C d a k s
+  pub never-stops : All-sound d → (s : Answered) × (seek C (height a) d (next-free a) (node a 0) k None 0 ≡ done s)
+
+-- the tree stands on a device
+pub record On-device (d : Image) (a : List Node) : Type 0 where
+  pub blocks : next-free a ≤ d .size
+  pub size-fits : d .size ≤ most-blocks
+  pub levels : height a ≤ most-levels
+
+abbrev pub Query-bridge : Type 0
+Query-bridge = (C : Code) → Round-trip C → (h : List (Entry Message)) → Keys h → let a = grown (C .algebra) h in
+    (d : Image) → Stored C d a → On-device d a → (k : ℕ) → Query-carries-over C d a k
