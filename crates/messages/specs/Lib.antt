@@ -6,3 +6,4 @@ pub mod Lists
 pub mod Places
 pub mod Words
 pub mod Examples
+pub mod BatchLaw

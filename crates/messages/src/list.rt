@@ -6,6 +6,7 @@ ghost use Prim.Native.Nat.{_+_, _≤_, _<_};
 ghost use lib.ListN.{length};
 ghost use Rattle.std.specs.Options.{isSome};
 ghost use Rattle.std.specs.Of.Vec.{vec-items, vec-len, vec-cap};
+ghost use Rattle.messages.specs.BatchLaw.{Batch-is-smallest};
 ghost use Rattle.messages.specs.Lists.{below, find, join-in, act-in, batch, batch-size, most-moving, rest};
 ghost use Rattle.messages.specs.Places.{value-at};
 use crate::entry::Entry;
@@ -118,3 +119,8 @@ pub fn take_batch(
     messages.copy_within(next..len, first);
     messages.truncate(len - count);
 }
+
+// Where keys rise, a batch is the 16 messages of smallest key among those of the span. Nothing is computed: the contract is the theorem.
+pub fn batch_is_smallest()
+    ensures { λ _. ⌜ Batch-is-smallest ⌝ }
+{}

@@ -1,22 +1,23 @@
 -- What one update costs: its writes, the blocks that it takes, and the full batches that it moves.
-use mathlib.Core.Path.{_≡_, refl, ap, sym, _∙_}
+use mathlib.Core.Path.{_≡_, refl, ap}
 use mathlib.Core.Bool.{Bool, true, false, cond}
-use mathlib.Core.List.{List, [], _∷_, _++_}
-use Prim.Native.Nat.{ℕ, zero, suc, _+_, _*_, _^_, _≤_, _<_}
+use mathlib.Core.List.{List, [], _∷_}
+use Prim.Native.Nat.{ℕ, zero, suc, _+_, _*_, _≤_, _<_}
 use native.Mathlib.Omega.{arith}
 use lib.Dec.{eqb, ltb}
-use lib.ListN.{length, set, length-append, length-set}
+use lib.ListN.{length, length-append, length-set}
 use Rattle.std.proofs.shelf.Tests.{cond-both}
 use Rattle.messages.specs.Algebra.{Algebra}
-use Rattle.messages.specs.Lists.{below, entry, join-in}
+use Rattle.messages.specs.Lists.{entry}
 use Rattle.messages.specs.declared.entry.Entry.{Entry}
 use Rattle.messages.specs.declared.message.Message.{Message}
-use Rattle.tree.specs.Laws.{Keys, Cost, Cost-law, Full-batches, Batch-law}
+use Rattle.tree.specs.Laws.{Cost-law, Full-batches, Batch-law}
 use Rattle.tree.specs.Nodes.{Node, node, height}
-use Rattle.tree.specs.Operations.{cut-root, joined, moved, split-child}
+use Rattle.tree.specs.Operations.{cut-root, joined}
 use Rattle.tree.specs.Shape.{Tree}
-use Rattle.tree.specs.Update.{busiest-child, busiest-place, is-full, upper-goes-on, prepared, target, after-step, run-steps, raised, step-writes, update, writes, grown}
+use Rattle.tree.specs.Update.{prepared, target, after-step, run-steps, raised, step-writes, grown}
 use Rattle.tree.proofs.Grown.{held, grown-tree}
+use Rattle.tree.proofs.Lengths.{length-step-le}
 use Rattle.tree.proofs.Lists.{size-full}
 use Rattle.tree.proofs.Update.{Going, starts, step-ok, step-pending}
 
@@ -26,22 +27,12 @@ step-writes-le : (K : Algebra) (l : ℕ) (a : List Node) (p own : ℕ) → step-
 step-writes-le K zero a p own = omega arith
 step-writes-le K (suc l) a p own = let h = step-writes-le K l (after-step K a p) (target a p) 1 in grind arith
 
-length-prepared : (a : List Node) (p : ℕ) → length (prepared a p) ≤ length a + 1
-length-prepared a p = go (is-full (node a (busiest-child a p)))
-  where
-    go : (b : Bool) → length (cond b (split-child a p (busiest-place a p) (busiest-child a p)) a) ≤ length a + 1
-    go true = simp (length-append, length-set) (omega arith)
-    go false = omega arith
-
-length-step : (K : Algebra) (a : List Node) (p : ℕ) → length (after-step K a p) ≤ length a + 1
-length-step K a p = simp length-set (length-prepared a p)
-
 length-steps : (K : Algebra) (l : ℕ) (a : List Node) (p : ℕ) → length (run-steps K l a p) ≤ length a + l
 length-steps K zero a p = omega arith
 length-steps K (suc l) a p =
     let ih = length-steps K l (after-step K a p) (target a p) in
     cond-both (ltb 256 (length (node a p .messages))) (run-steps K l (after-step K a p) (target a p)) a (λ b. length b ≤ length a + suc l)
-    (λ _. omega (arith, ih, length-step K a p))
+    (λ _. omega (arith, ih, length-step-le K a p))
     (λ _. omega arith)
 
 -- a node of at most 256 messages has no steps

@@ -1,13 +1,13 @@
+-- A cut of the root and a join leave a tree, and what it says of keys is as it must be.
 use mathlib.Core.Path.{_≡_, refl, ap, sym, subst, _∙_}
-use mathlib.Core.Logic.{_≢_, _⊎_, inl, inr, ⊎-elim}
-use mathlib.Core.Bool.{Bool, true, false, cond}
-use mathlib.Core.List.{List, [], _∷_, _++_}
-use Prim.Native.Nat.{ℕ, zero, suc, _+_, _-_, _*_, _^_, _≤_, _<_}
+use mathlib.Core.Logic.{⊎-elim}
+use mathlib.Core.Bool.{cond}
+use mathlib.Core.List.{List, [], _∷_}
+use Prim.Native.Nat.{ℕ, zero, suc, _+_, _-_, _^_, _≤_, _<_}
 use native.Mathlib.Omega.{arith}
-use lib.ListN.{length, take, drop, getD, set, length-set, length-append}
+use lib.ListN.{length, getD, set, length-set, length-append}
 use lib.Seq.{getD-set-same, getD-set-other}
-use lib.Dec.{eqb, ltb}
-use Rattle.std.specs.declared.option.Option.{Option}
+use lib.Dec.{ltb}
 use Rattle.std.specs.declared.option.Option.the-variants.{None}
 use Rattle.std.proofs.shelf.Tests.{cases-lt, cases-eq, lt-ltb, le-ltb}
 use Rattle.std.proofs.shelf.Lists.{getD-append-left, getD-at, getD-append-right}
@@ -15,13 +15,13 @@ use Rattle.messages.specs.Algebra.{Algebra}
 use Rattle.messages.specs.Lists.{entry, find, join-in}
 use Rattle.messages.specs.declared.message.Message.{Message}
 use Rattle.tree.proofs.Reached.{Halved}
-use Rattle.tree.specs.Lookup.{acts, look, lookup, said}
+use Rattle.tree.specs.Lookup.{acts, look, lookup}
 use Rattle.tree.specs.Nodes.{Frame, Node, child, no-node, node}
 use Rattle.tree.specs.Operations.{cut, joined, new-root, with-message}
-use Rattle.tree.specs.Shape.{Child, In, Sound, Tree}
+use Rattle.tree.specs.Shape.{In, Child, Sound, Tree}
 use Rattle.tree.proofs.Lists.{within-join, acts-join}
-use Rattle.tree.proofs.Frames.{Took, Part, sound-same, place-same, Place}
-use Rattle.tree.proofs.Move.{inner-sound, leaf-sound, took}
+use Rattle.tree.proofs.Frames.{sound-same, place-same, Place}
+use Rattle.tree.proofs.Move.{inner-sound, took}
 
 module _ (a : List Node) (t : Tree a) (q : ℕ) (y z : Node) (m : Halved a q (node a 0) y z) where
   pub len : length (cut a q y z) ≡ length a + 2

@@ -1,20 +1,15 @@
--- What follows of every state that a run reaches.
-use mathlib.Core.Path.{_≡_, refl, ap, sym, subst, _∙_}
-use mathlib.Core.Logic.{_≢_, _⊎_, inl, inr, ⊎-elim}
-use mathlib.Core.List.{List, [], _∷_, _++_}
-use Prim.Native.Nat.{ℕ, zero, suc, _+_, _-_, _*_, _^_, _≤_, _<_, max}
+-- The bounds that follow from what is kept.
+use mathlib.Core.Path.{_≡_, refl, ap, _∙_}
+use mathlib.Core.Logic.{_≢_}
+use mathlib.Core.List.{List, [], _∷_}
+use Prim.Native.Nat.{ℕ, zero, suc, _+_, _-_, _*_, _^_, _≤_, _<_}
 use native.Mathlib.Omega.{arith}
 use native.Mathlib.Nat.{mul-le-mul-left}
-use lib.ListN.{length, getD, set, length-set, length-append}
+use lib.ListN.{length, getD}
 use Rattle.std.specs.shelf.Lists.{All}
-use Rattle.tree.proofs.Wear.{Run, Shape, State, Wear, Worn, at, bulk, bulk-of, children-at, children-of, height, inner, inner-of, one-at, same, shape, start, total}
-use Rattle.tree.proofs.Wear.Run.{done, more}
+use Rattle.tree.proofs.Wear.{Shape, State, Worn, bulk, bulk-of, children-at, children-of, height, inner, inner-of, one-at, same, shape, total}
 use Rattle.tree.proofs.Sums.{total-le, total-same, total-one}
-use Rattle.tree.proofs.Keeps.{Keeps, Inv, Full, Tail, inv-start, inv-step}
-
-inv-run : (s t : State) → Run s t → Inv s → Inv t
-inv-run s t done i = i
-inv-run s t (more {t = u} r st) i = inv-step u t st (inv-run s u r i)
+use Rattle.tree.proofs.Keeps.{Inv, Full, Tail}
 
 same-le : (l : ℕ) → 120 * same l 0 ≤ 120
 same-le zero = omega arith
@@ -110,6 +105,3 @@ ends s i =
       tall = λ h. omega (arith, wide s i h (height s - 1) 0 (omega arith));
       room = omega arith;
     }
-
-pub wear : Wear
-wear s r = ends s (inv-run start s r inv-start)

@@ -1,17 +1,16 @@
--- the child that takes a key of the span is a node below, and the key is in its span
-use mathlib.Core.Path.{_≡_, refl, ap, sym, subst, _∙_}
-use mathlib.Core.Logic.{_≢_, _⊎_, inl, inr, ⊎-elim}
-use mathlib.Core.Bool.{Bool, true, false, cond}
-use mathlib.Core.List.{List, [], _∷_, _++_}
-use Prim.Native.Nat.{ℕ, zero, suc, _+_, _-_, _*_, _≤_, _<_}
+-- Spans: a child's lies in its parent's, and nodes stay sound while their children stand where they stood.
+use mathlib.Core.Path.{_≡_, refl, ap, _∙_}
+use mathlib.Core.Logic.{_⊎_, inl, inr, ⊎-elim}
+use mathlib.Core.List.{List, [], _∷_}
+use Prim.Native.Nat.{ℕ, zero, suc, _≤_, _<_}
 use native.Mathlib.Omega.{arith}
-use lib.ListN.{length, take, drop, getD, set}
-use lib.Dec.{eqb, ltb}
-use Rattle.std.proofs.shelf.Tests.{cases-lt, cases-eq, cond-both, ltb-false, ltb-true}
-use Rattle.messages.specs.Lists.{below}
-use Rattle.tree.specs.Nodes.{Frame, Node, child, node, pick}
-use Rattle.tree.specs.Shape.{Child, Children, In, Sound}
+use lib.ListN.{length, getD}
+use lib.Dec.{ltb}
+use Rattle.std.proofs.shelf.Tests.{cases-lt, cond-both, ltb-false, ltb-true}
+use Rattle.tree.specs.Nodes.{Frame, Node, node, pick}
+use Rattle.tree.specs.Shape.{In, Child, Children, Sound}
 
+-- the child that takes a key of the span is a node below, and the key is in its span
 pub record Took (a : List Node) (l d k : ℕ) : Type 0 where
   pub inside : d < length a
   pub not-root : 0 < d

@@ -1,26 +1,28 @@
 -- What holds of every tree that updates grow: it is reached by operations, its sizes are right, and its writes are counted.
-use mathlib.Core.Path.{_≡_, refl, ap, sym, subst, subst₂, _∙_}
-use mathlib.Core.Bool.{Bool, true, false, cond}
+use mathlib.Core.Path.{_≡_, refl, ap, subst, subst₂}
+use mathlib.Core.Bool.{cond}
 use mathlib.Core.List.{List, [], _∷_, map}
 use Prim.Native.Nat.{ℕ, zero, suc, _+_, _-_, _*_, _^_, _≤_, _<_}
 use native.Mathlib.Omega.{arith}
-use lib.Dec.{eqb, ltb}
+use lib.Dec.{ltb}
 use lib.ListN.{length, getD}
-use Rattle.std.proofs.shelf.Lists.{length-map}
+use Rattle.std.proofs.shelf.Lists.{length-map, length-set}
 use Rattle.messages.specs.Algebra.{Algebra}
 use Rattle.messages.specs.declared.entry.Entry.{Entry}
 use Rattle.messages.specs.declared.message.Message.{Message}
-use Rattle.tree.specs.Laws.{Keys, Wear, Wear-law}
+use Rattle.tree.specs.Laws.{Keys, Wear-law}
 use Rattle.tree.specs.Lookup.{lookup, said}
-use Rattle.tree.specs.Nodes.{Node, node, height}
-use Rattle.tree.specs.Operations.{fresh}
+use Rattle.tree.specs.Nodes.{Node, height, node}
+use Rattle.tree.specs.Operations.{fresh, joined}
 use Rattle.tree.specs.Shape.{Tree, All-sized}
-use Rattle.tree.specs.Update.{grown, tree-writes}
+use Rattle.tree.specs.Limits.{most-entries}
+use Rattle.tree.specs.Update.{after-step, batches-moved, busiest-child, grown, is-full, raised, run-steps, step-writes, steps-made, target, tree-writes}
 use Rattle.tree.proofs.Wear.{Shape, shape}
 use Rattle.tree.proofs.Reached.{Reached, shape-of}
 use Rattle.tree.proofs.Reached.Reached.{start}
 use Rattle.tree.proofs.Invariants.{says-as-told, worn, tree, inv}
 use Rattle.tree.proofs.Real.{at-shape}
+use Rattle.tree.proofs.Lengths.{cases-bool, length-step, length-raised}
 use Rattle.tree.proofs.Update.{updated}
 
 pub record Held (K : Algebra) (h : List (Entry Message)) : Type 0 where
@@ -51,14 +53,35 @@ grown-says K h ks k lt = let i = held K h ks in says-as-told K (grown K h) h (i 
 level-of : (a : List Node) → getD (map shape-of a) 0 (shape 0 0 0) .level ≡ height a
 level-of a = ap (λ (x : Shape). x .level) (at-shape a 0)
 
+-- the writes of steps, by the batches that they move and the blocks that they take
+step-writes-are : (K : Algebra) (l : ℕ) (a : List Node) (p own : ℕ) → step-writes K l a p own + length a ≡ own + steps-made K l a p + length (run-steps K l a p)
+step-writes-are K zero a p own = omega arith
+step-writes-are K (suc l) a p own =
+    let ih = step-writes-are K l (after-step K a p) (target a p) 1 in
+    let n = length-step K a p in
+    cases-bool (ltb most-entries (length (node a p .messages)))
+    (λ t. cond t (cond (is-full (node a (busiest-child a p))) 1 0 + own + step-writes K l (after-step K a p) (target a p) 1) own + length a
+    ≡ own + cond t (suc (steps-made K l (after-step K a p) (target a p))) 0 + length (cond t (run-steps K l (after-step K a p) (target a p)) a))
+    (omega arith) (omega arith)
+
+counted : (K : Algebra) (h : List (Entry Message)) → tree-writes K h + 2 ≡ batches-moved K h + length (grown K h)
+counted K [] = refl
+counted K (e ∷ h) =
+    let a = grown K h in
+    let b = raised a in
+    let s = step-writes-are K (height b) (joined K (e .key) (e .value) b) 0 0 in
+    let n : length (joined K (e .key) (e .value) b) ≡ length b = simp length-set in
+    omega (arith, counted K h, s, length-raised a)
+
 pub wear : Wear-law
 wear K h ks =
     let i = held K h ks in
     let w = worn K (grown K h) h (i .moves) (i .reached) in
     let v = inv K (grown K h) h (i .moves) (i .reached) in
-    let counted : i .moves + (length (grown K h) - 2) ≡ tree-writes K h = omega (arith, i .tally, v .written, length-map (grown K h) shape-of) in
+    let writes-are : i .moves + (length (grown K h) - 2) ≡ tree-writes K h = omega (arith, i .tally, v .written, length-map (grown K h) shape-of) in
     record {
-      pace = subst₂ (λ x y. 16 * x ≤ length h * (y + 1)) counted (level-of (grown K h)) (w .pace);
+      counted = counted K h;
+      pace = subst₂ (λ x y. 16 * x ≤ length h * (y + 1)) writes-are (level-of (grown K h)) (w .pace);
       tall = subst (λ y. 2 ≤ y → 113 * (2 * 4 ^ (y - 1) - 1) ≤ length h) (level-of (grown K h)) (w .tall);
     }
 

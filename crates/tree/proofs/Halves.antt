@@ -1,15 +1,12 @@
--- ---- children in two
+-- The halves of a node share its keys, its messages and its children.
 use mathlib.Core.Path.{_≡_, refl, ap, sym, subst, _∙_}
-use mathlib.Core.Logic.{_≢_, _⊎_, inl, inr, ⊎-elim}
-use mathlib.Core.Bool.{Bool, true, false, cond}
+use mathlib.Core.Bool.{cond}
 use mathlib.Core.List.{List, [], _∷_, _++_}
-use Prim.Native.Nat.{ℕ, zero, suc, _+_, _-_, _*_, _^_, _≤_, _<_}
+use Prim.Native.Nat.{ℕ, zero, suc, _≤_, _<_}
 use native.Mathlib.Omega.{arith}
 use lib.ListN.{length, take, drop, getD}
-use lib.Dec.{eqb, ltb}
-use Rattle.std.specs.declared.option.Option.{Option}
-use Rattle.std.specs.declared.option.Option.the-variants.{Some, None}
-use Rattle.std.proofs.shelf.Tests.{cases-lt, lt-ltb, le-ltb}
+use lib.Dec.{ltb}
+use Rattle.std.proofs.shelf.Tests.{lt-ltb, le-ltb}
 use Rattle.std.proofs.shelf.Lists.{take-append-drop}
 use Rattle.messages.specs.Lists.{Within, below, find}
 use Rattle.messages.specs.declared.entry.Entry.{Entry}
@@ -17,41 +14,42 @@ use Rattle.tree.proofs.Reached.{Halved}
 use Rattle.tree.specs.Nodes.{Node, pick}
 use Rattle.tree.specs.Operations.{key-at, lower-inner, lower-leaf, upper-inner, upper-leaf}
 use Rattle.tree.specs.Shape.{Children, Sound}
-use Rattle.tree.proofs.Lists.{within-below, within-above, acts-low, acts-high, find-under, find-append, find-append′, within-wider}
+use Rattle.tree.proofs.Lists.{within-below, within-above, acts-low, acts-high, find-under, find-append, find-append′}
 use Rattle.tree.proofs.Frames.{children-some}
 use Rattle.tree.proofs.Move.{inner-sound, leaf-sound}
 
+-- ---- children in two
 children-low : (a : List Node) (l low high i : ℕ) (cs ps : List ℕ) → Children a l low high cs ps → i < length ps → Children a l low (getD ps i 0) (take (suc i) cs) (take i ps)
-children-low a l low high i [] ps h high′ = absurd h
-children-low a l low high i (c ∷ cs) [] h high′ = absurd (omega arith)
-children-low a l low high zero (c ∷ cs) (r ∷ ps) h high′ = h .0
-children-low a l low high (suc i) (c ∷ cs) (r ∷ ps) h high′ = (h .0, children-low a l r high i cs ps (h .1) (omega arith))
+children-low a l low high i [] ps h lt = absurd h
+children-low a l low high i (c ∷ cs) [] h lt = absurd (omega arith)
+children-low a l low high zero (c ∷ cs) (r ∷ ps) h lt = h .0
+children-low a l low high (suc i) (c ∷ cs) (r ∷ ps) h lt = (h .0, children-low a l r high i cs ps (h .1) (omega arith))
 
 children-high : (a : List Node) (l low high i : ℕ) (cs ps : List ℕ) → Children a l low high cs ps → i < length ps → Children a l (getD ps i 0) high (drop (suc i) cs) (drop (suc i) ps)
-children-high a l low high i [] ps h high′ = absurd h
-children-high a l low high i (c ∷ cs) [] h high′ = absurd (omega arith)
-children-high a l low high zero (c ∷ cs) (r ∷ ps) h high′ = h .1
-children-high a l low high (suc i) (c ∷ cs) (r ∷ ps) h high′ = children-high a l r high i cs ps (h .1) (omega arith)
+children-high a l low high i [] ps h lt = absurd h
+children-high a l low high i (c ∷ cs) [] h lt = absurd (omega arith)
+children-high a l low high zero (c ∷ cs) (r ∷ ps) h lt = h .1
+children-high a l low high (suc i) (c ∷ cs) (r ∷ ps) h lt = children-high a l r high i cs ps (h .1) (omega arith)
 
 pivot-in : (a : List Node) (l low high i : ℕ) (cs ps : List ℕ) → Children a l low high cs ps → i < length ps → (low < getD ps i 0) × (getD ps i 0 < high)
-pivot-in a l low high i cs ps h high′ = (
-  children-some a l _ _ (take (suc i) cs) (take i ps) (children-low a l low high i cs ps h high′),
-  children-some a l _ _ (drop (suc i) cs) (drop (suc i) ps) (children-high a l low high i cs ps h high′),
+pivot-in a l low high i cs ps h lt = (
+  children-some a l _ _ (take (suc i) cs) (take i ps) (children-low a l low high i cs ps h lt),
+  children-some a l _ _ (drop (suc i) cs) (drop (suc i) ps) (children-high a l low high i cs ps h lt),
 )
 
 pick-low : (a : List Node) (l low high i k : ℕ) (cs ps : List ℕ) → Children a l low high cs ps → i < length ps → k < getD ps i 0
     → pick (take (suc i) cs) (take i ps) k ≡ pick cs ps k
-pick-low a l low high i k [] ps h high′ g = absurd h
-pick-low a l low high i k (c ∷ cs) [] h high′ g = absurd (omega arith)
-pick-low a l low high zero k (c ∷ cs) (r ∷ ps) h high′ g = rw (lt-ltb k r g)
-pick-low a l low high (suc i) k (c ∷ cs) (r ∷ ps) h high′ g = ap (cond (ltb k r) c) (pick-low a l r high i k cs ps (h .1) (omega arith) g)
+pick-low a l low high i k [] ps h lt g = absurd h
+pick-low a l low high i k (c ∷ cs) [] h lt g = absurd (omega arith)
+pick-low a l low high zero k (c ∷ cs) (r ∷ ps) h lt g = rw (lt-ltb k r g)
+pick-low a l low high (suc i) k (c ∷ cs) (r ∷ ps) h lt g = ap (cond (ltb k r) c) (pick-low a l r high i k cs ps (h .1) (omega arith) g)
 
 pick-high : (a : List Node) (l low high i k : ℕ) (cs ps : List ℕ) → Children a l low high cs ps → i < length ps → getD ps i 0 ≤ k
     → pick (drop (suc i) cs) (drop (suc i) ps) k ≡ pick cs ps k
-pick-high a l low high i k [] ps h high′ g = absurd h
-pick-high a l low high i k (c ∷ cs) [] h high′ g = absurd (omega arith)
-pick-high a l low high zero k (c ∷ cs) (r ∷ ps) h high′ g = rw (le-ltb k r g)
-pick-high a l low high (suc i) k (c ∷ cs) (r ∷ ps) h high′ g =
+pick-high a l low high i k [] ps h lt g = absurd h
+pick-high a l low high i k (c ∷ cs) [] h lt g = absurd (omega arith)
+pick-high a l low high zero k (c ∷ cs) (r ∷ ps) h lt g = rw (le-ltb k r g)
+pick-high a l low high (suc i) k (c ∷ cs) (r ∷ ps) h lt g =
     let p = pivot-in a l r high i cs ps (h .1) (omega arith) in
     rw (le-ltb k r (omega arith)) (pick-high a l r high i k cs ps (h .1) (omega arith) g)
 

@@ -1,14 +1,12 @@
 -- What holds of every tree that the operations reach: its structure, what it says of a key, and the sums behind the wear law.
-use mathlib.Core.Path.{_≡_, refl, ap, sym, subst, _∙_}
-use mathlib.Core.Logic.{_≢_, _⊎_, inl, inr, ⊎-elim}
-use mathlib.Core.Bool.{Bool, true, false, cond}
-use mathlib.Core.List.{List, [], _∷_, _++_, map}
-use Prim.Native.Nat.{ℕ, zero, suc, _+_, _-_, _*_, _/_, _^_, _≤_, _<_}
+use mathlib.Core.Path.{_≡_, refl, ap, subst, _∙_}
+use mathlib.Core.Logic.{inl, inr}
+use mathlib.Core.Bool.{cond}
+use mathlib.Core.List.{List}
+use Prim.Native.Nat.{ℕ, zero, suc, _^_, _<_}
 use native.Mathlib.Omega.{arith}
-use lib.ListN.{length, take, drop, getD, set}
-use lib.Dec.{eqb, ltb}
-use Rattle.std.specs.declared.option.Option.{Option}
-use Rattle.std.specs.declared.option.Option.the-variants.{Some, None}
+use lib.ListN.{length, getD}
+use lib.Dec.{eqb}
 use Rattle.messages.specs.Algebra.{Algebra}
 use Rattle.messages.specs.Messages.{effect}
 use Rattle.messages.specs.declared.entry.Entry.{Entry}
@@ -41,8 +39,8 @@ level-up zero h = absurd (omega arith)
 level-up (suc l) h = (l, refl)
 
 -- ---- the tree
-laid-tree : Tree fresh
-laid-tree =
+fresh-tree : Tree fresh
+fresh-tree =
     record {
       has-root = omega arith;
       root-from-zero = refl;
@@ -86,7 +84,7 @@ root-halved a t e8 =
     halve-inner a l 3 (node a 0) e s (omega (arith, children-length a l _ _ (node a 0 .frame .children) (node a 0 .frame .pivots) (inner-sound a l _ (node a 0) e s .1)))
 
 pub tree : (K : Algebra) (a : List Node) (h : List (Entry Message)) (n : ℕ) → Reached K a h n → Tree a
-tree K a h n start = laid-tree
+tree K a h n start = fresh-tree
 tree K a h n (join {a = b} k m lt r) = join-tree K b (tree K b _ _ r) k m lt
 tree K a h n (move {a = b} p j c m r) = let (l, e) = level-up (node b p .frame .level) (m .inner) in move-tree K b (tree K b _ _ r) p j c l m e
 tree K a h n (part {a = b} p j c u f r) =

@@ -1,9 +1,8 @@
--- What every micro-operation keeps.
--- each inner node but the root has at least four children
-use mathlib.Core.Path.{_≡_, refl, ap, sym, subst, subst₂, _∙_}
+-- What every counted step keeps.
+use mathlib.Core.Path.{_≡_, refl, ap, sym, subst, _∙_}
 use mathlib.Core.Logic.{_≢_, _⊎_, inl, inr, ⊎-elim}
 use mathlib.Core.List.{List, [], _∷_, _++_}
-use Prim.Native.Nat.{ℕ, zero, suc, _+_, _-_, _*_, _^_, _≤_, _<_, max}
+use Prim.Native.Nat.{ℕ, zero, suc, _+_, _-_, _*_, _≤_, _<_}
 use native.Mathlib.Omega.{arith}
 use native.Mathlib.Nat.{mul-le-mul-left}
 use lib.ListN.{length, getD, set, length-set, length-append}
@@ -14,24 +13,32 @@ use Rattle.tree.proofs.Wear.{Pair, Shape, State, Step, after-cut, after-join, 
 use Rattle.tree.proofs.Wear.Step.{cut, join, split-inner, split-leaf, move}
 use Rattle.tree.proofs.Sums.{total-append, total-set, total-two}
 
+-- an inner node has at least 4 children
 abbrev pub Full : Shape → Type 0
 Full n = 4 * inner n ≤ n .children
 
+-- so have all but the root
 abbrev pub Tail : List Shape → Type 0
 Tail [] = Unit {0}
 Tail (r ∷ xs) = All Full xs
 
--- h is the height and q the number of the root's children
+-- what every step keeps, for the height h and q children of the root
 pub record Keeps (h q : ℕ) (s : State) : Type 0 where
+  -- there is a root, and it is no leaf
   pub some : 0 < length (s .blocks)
   pub high : 1 ≤ h
   pub root-children : 1 ≤ q
   pub root-children₂ : 2 ≤ h → 2 ≤ q
+  -- 16 for each move, and what messages still have to fall, are paid for by the height for each update
   pub pace : 16 * s .moves + total weight (s .blocks) ≤ s .updates * h
+  -- each update adds at most 1 to the loads, where a leaf counts at least 120
   pub growth : total bulk (s .blocks) ≤ s .updates + 120
+  -- each block but the root is a child once
   pub kin : total children-of (s .blocks) + 1 ≡ length (s .blocks)
+  -- the nodes of a level are the children of the level above it, or the root
   pub tiers : (k : ℕ) → total (children-at (suc k)) (s .blocks) + same h k ≡ total (one-at k) (s .blocks)
   pub full : Tail (s .blocks)
+  -- a write for each move and for each block beyond the first two
   pub written : s .writes + 2 ≡ s .moves + length (s .blocks)
 
 abbrev pub Inv : State → Type 0

@@ -1,8 +1,7 @@
 -- The laws of queries, updates, pages and totals.
-use mathlib.Core.Path.{_≡_, refl, ap, sym, _∙_}
-use mathlib.Core.Logic.{_≢_}
-use mathlib.Core.List.{List, [], _∷_}
-use Prim.Native.Nat.{ℕ, suc, _+_, _-_, _*_, _^_, _≤_, _<_}
+use mathlib.Core.Path.{refl, ap, sym, _∙_}
+use mathlib.Core.List.{_∷_}
+use Prim.Native.Nat.{suc, _*_, _<_, _-_, _^_}
 use native.Mathlib.Nat.{mul-le-mul-left}
 use native.Mathlib.Omega.{arith}
 use lib.ListN.{length}
@@ -10,21 +9,18 @@ use Rattle.std.proofs.shelf.Tests.{eq-eqb, ne-eqb}
 use Rattle.messages.specs.Lists.{entry}
 use Rattle.messages.specs.Messages.{effect}
 use Rattle.messages.specs.Quantity.{quantity-algebra}
-use Rattle.messages.specs.declared.entry.Entry.{Entry}
-use Rattle.messages.specs.declared.message.Message.{Message}
 use Rattle.tree.specs.Laws.{Map-law, Update-law, Page-law, Total-law, Sum-law}
-use Rattle.tree.specs.Lookup.{said}
 use Rattle.tree.specs.Nodes.{height}
 use Rattle.tree.specs.Update.{grown}
 use Rattle.tree.proofs.Grown.{held, grown-tree, grown-says}
-use Rattle.tree.proofs.Query.{queries, length-path, length-page}
-use Rattle.tree.proofs.Sum.{exact-sum}
+use Rattle.tree.proofs.Query.{queries, query-reads, length-path, length-page}
+use Rattle.tree.proofs.Sum.{exact-sum, exact-quantity}
 use Rattle.tree.proofs.Total.{one-page, all-pages, within-min, next-none, next-some}
 
 pub map-law : Map-law
 map-law K h ks k lt =
     let q = queries K (grown K h) (grown-tree K h ks) k lt in
-    record { stands = grown-says K h ks k lt; value = q .0 ∙ grown-says K h ks k lt; reads = q .1 }
+    record { stands = grown-says K h ks k lt; value = q .0 ∙ grown-says K h ks k lt; reads = query-reads K (grown K h) k; reads-at-most = q .1 }
 
 pub update-law : Update-law
 update-law K h ks k m lt =
@@ -40,6 +36,7 @@ page-law K h ks first last le lt =
     let a = grown K h in
     let t = grown-tree K h ks in
     let o = one-page K a t first last (omega arith) in
+    let n = length-page K a t (held K h ks .sized) first last (omega arith) in
     record {
       span-from = o .from;
       span-upto = o .upto;
@@ -48,7 +45,8 @@ page-law K h ks first last le lt =
       next-none = next-none K a t first last;
       next-some = next-some K a t first last;
       reads = length-path (height a) a 0 first;
-      few = length-page K a t (held K h ks .sized) first last (omega arith);
+      few = n;
+      table = λ g. omega arith;
     }
 
 pub total-law : Total-law
@@ -57,6 +55,11 @@ total-law K h ks first last le lt =
     record { rising = o .0; exact = λ k x y. o .1 k x y ∙ grown-says K h ks k (omega arith) }
 
 pub sum-law : Sum-law
-sum-law h ks amounts few first last le lt =
-    let o = total-law quantity-algebra h ks first last le lt in
-    exact-sum (10 ^ 9) h first (suc last) _ amounts (omega (arith, mul-le-mul-left (10 ^ 9) few)) (o .rising) (λ k x y. o .exact k x (omega arith))
+sum-law h ks amounts few =
+    let small : 10 ^ 9 * length h < 2 ^ 63 = omega (arith, mul-le-mul-left (10 ^ 9) few) in
+    record {
+      quantities = λ k. exact-quantity (10 ^ 9) k h amounts small;
+      sums = λ first last le lt.
+          let o = total-law quantity-algebra h ks first last le lt in
+          exact-sum (10 ^ 9) h first (suc last) _ amounts small (o .rising) (λ k x y. o .exact k x (omega arith));
+    }

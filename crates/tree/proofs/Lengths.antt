@@ -1,25 +1,27 @@
-use mathlib.Core.Path.{_≡_, refl, ap, sym, subst, _∙_}
-use mathlib.Core.Logic.{_≢_, _⊎_, inl, inr, ⊎-elim}
+-- Lengths of lists, and the child with most pending messages.
+use mathlib.Core.Path.{_≡_, refl, ap}
 use mathlib.Core.Bool.{Bool, true, false, cond}
-use mathlib.Core.List.{List, [], _∷_, _++_}
-use Prim.Native.Nat.{ℕ, zero, suc, _+_, _-_, _*_, _≤_, _<_, min}
+use mathlib.Core.List.{List, [], _∷_}
+use Prim.Native.Nat.{ℕ, zero, suc, _+_, _*_, _≤_, _<_}
 use native.Mathlib.Omega.{arith}
 use native.Mathlib.Nat.{mul-le-mul-right}
-use lib.ListN.{length, take, drop, getD, length-take, length-drop, length-append}
-use lib.Dec.{eqb, ltb, leb}
+use lib.Dec.{eqb}
+use lib.ListN.{length, getD, length-take, length-drop, length-append, length-set}
 use Rattle.std.specs.declared.option.Option.{Option}
 use Rattle.std.specs.declared.option.Option.the-variants.{Some, None}
 use Rattle.std.proofs.shelf.Ways.{tells}
 use Rattle.std.proofs.shelf.Tests.{lt-ltb, le-ltb}
 use Rattle.messages.specs.Algebra.{Algebra}
-use Rattle.messages.specs.Lists.{Within, act-in, acts-in, batch, below, join-in, joins, pending, put-first, rest}
+use Rattle.messages.specs.Lists.{Within, act-in, acts-in, batch, below, join-in, joins, put-first, rest}
 use Rattle.messages.specs.Messages.{effect}
 use Rattle.messages.specs.declared.entry.Entry.{Entry}
 use Rattle.messages.specs.declared.message.Message.{Message}
 use Rattle.tree.proofs.Lists.{size-full}
-use Rattle.tree.specs.Nodes.{Node, child, node}
+use Rattle.tree.specs.Limits.{most-children}
+use Rattle.tree.specs.Nodes.{Node, node}
+use Rattle.tree.specs.Operations.{cut-root, split-child}
 use Rattle.tree.specs.Shape.{Children}
-use Rattle.tree.specs.Update.{largest, pending-counts, pending-for}
+use Rattle.tree.specs.Update.{after-step, busiest-child, busiest-place, is-full, largest, pending-counts, pending-for, raised}
 
 pub length-join : (K : Algebra) (k : ℕ) (m : Message) (xs : List (Entry Message)) → (length xs ≤ length (join-in K k m xs)) × (length (join-in K k m xs) ≤ length xs + 1)
 length-join K k m [] = omega arith
@@ -120,3 +122,23 @@ children-length a l low high [] ps h = absurd h
 children-length a l low high (c ∷ []) [] h = refl
 children-length a l low high (c ∷ d ∷ cs) [] h = absurd h
 children-length a l low high (c ∷ cs) (r ∷ ps) h = ap suc (children-length a l r high cs ps (h .1))
+
+-- ---- the number of blocks
+pub cases-bool : (t : Bool) (P : Bool → Type 0) → P true → P false → P t
+cases-bool true P yes′ no′ = yes′
+cases-bool false P yes′ no′ = no′
+
+pub length-step : (K : Algebra) (a : List Node) (p : ℕ) → length (after-step K a p) ≡ length a + cond (is-full (node a (busiest-child a p))) 1 0
+length-step K a p = simp length-set (cases-bool (is-full (node a (busiest-child a p)))
+    (λ t. length (cond t (split-child a p (busiest-place a p) (busiest-child a p)) a) ≡ length a + cond t 1 0)
+    (simp (length-append, length-set)) (omega arith))
+
+pub length-step-le : (K : Algebra) (a : List Node) (p : ℕ) → length (after-step K a p) ≤ length a + 1
+length-step-le K a p =
+    let one : cond (is-full (node a (busiest-child a p))) 1 0 ≤ 1 = cases-bool (is-full (node a (busiest-child a p))) (λ t. cond t 1 0 ≤ 1) (omega arith) (omega arith) in
+    omega (arith, length-step K a p)
+
+pub length-raised : (a : List Node) → length (raised a) ≡ length a + cond (eqb (length (node a 0 .frame .children)) most-children) 2 0
+length-raised a = cases-bool (eqb (length (node a 0 .frame .children)) most-children)
+    (λ t. length (cond t (cut-root a) a) ≡ length a + cond t 2 0)
+    (simp (length-append, length-set)) (omega arith)

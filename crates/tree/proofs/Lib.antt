@@ -22,3 +22,4 @@ pub mod Shapes
 pub mod Costs
 pub mod Laws
 pub mod Known
+pub mod Choices

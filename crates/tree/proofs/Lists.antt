@@ -1,17 +1,18 @@
-use mathlib.Core.Path.{_≡_, refl, ap, sym, subst, _∙_}
-use mathlib.Core.Logic.{_≢_, _⊎_, inl, inr, ⊎-elim}
-use mathlib.Core.Bool.{Bool, true, false, cond}
+-- Lists of entries by rising key: what joins, acts and batches do to what they say of a key.
+use mathlib.Core.Path.{_≡_, refl, ap, sym, _∙_}
+use mathlib.Core.Logic.{_≢_, ⊎-elim}
+use mathlib.Core.Bool.{false, cond}
 use mathlib.Core.List.{List, [], _∷_, _++_}
-use Prim.Native.Nat.{ℕ, zero, suc, _+_, _-_, _*_, _≤_, _<_}
+use Prim.Native.Nat.{ℕ, zero, suc, _+_, _≤_, _<_}
 use native.Mathlib.Omega.{arith}
 use native.Mathlib.Nat.{zero-add, suc-add}
-use lib.ListN.{length, take, drop}
+use lib.ListN.{take, drop}
 use lib.Dec.{eqb, ltb}
 use Rattle.std.specs.declared.option.Option.{Option}
 use Rattle.std.specs.declared.option.Option.the-variants.{Some, None}
-use Rattle.std.proofs.shelf.Lists.{take-append-drop, drop-take, drop-drop}
+use Rattle.std.proofs.shelf.Lists.{take-append-drop, drop-drop}
 use Rattle.std.proofs.shelf.Ways.{tells}
-use Rattle.std.proofs.shelf.Tests.{cases-order, cases-lt, cases-eq, cond-both, ltb-false, ltb-true, eqb-true, eqb-false, ne-eqb, eq-eqb, lt-ltb, le-ltb}
+use Rattle.std.proofs.shelf.Tests.{cases-lt, cases-eq, cond-both, ltb-false, ltb-true, eqb-true, eqb-false, ne-eqb, eq-eqb, lt-ltb, le-ltb}
 use Rattle.messages.specs.Algebra.{Algebra}
 use Rattle.messages.specs.Lists.{Within, act-in, acts-in, batch, batch-size, below, entry, find, join-in, joins, put-first, rest}
 use Rattle.messages.specs.Messages.{effect, fold}

@@ -1,25 +1,24 @@
--- what a node at a level above 0 has
+-- A move leaves a tree, and what it says of every key.
 use mathlib.Core.Path.{_≡_, refl, ap, sym, subst, _∙_}
-use mathlib.Core.Logic.{_≢_, _⊎_, inl, inr, ⊎-elim}
-use mathlib.Core.Bool.{Bool, true, false, cond}
-use mathlib.Core.List.{List, [], _∷_, _++_}
-use Prim.Native.Nat.{ℕ, zero, suc, _+_, _-_, _*_, _^_, _≤_, _<_}
+use mathlib.Core.Logic.{_≢_, ⊎-elim}
+use mathlib.Core.List.{List}
+use Prim.Native.Nat.{ℕ, zero, suc, _^_, _<_}
 use native.Mathlib.Omega.{arith}
-use lib.ListN.{length, take, drop, getD, set, length-set}
+use lib.ListN.{length, length-set}
 use lib.Seq.{getD-set-same, getD-set-other}
-use lib.Dec.{eqb, ltb}
 use Rattle.std.specs.declared.option.Option.{Option}
-use Rattle.std.proofs.shelf.Tests.{cases-lt, cases-eq, ne-eqb, eq-eqb}
+use Rattle.std.proofs.shelf.Tests.{cases-lt, cases-eq}
 use Rattle.messages.specs.Algebra.{Algebra}
 use Rattle.messages.specs.Lists.{Within, find, pending, rest}
 use Rattle.tree.proofs.Reached.{Can-move}
-use Rattle.tree.specs.Lookup.{acts, look, lookup, said}
+use Rattle.tree.specs.Lookup.{acts, look, lookup}
 use Rattle.tree.specs.Nodes.{Frame, Node, child, no-node, node}
 use Rattle.tree.specs.Operations.{absorb, absorb-messages, absorb-records, moved, moving-batch, without-batch}
-use Rattle.tree.specs.Shape.{Children, In, Sound, Tree}
+use Rattle.tree.specs.Shape.{In, Children, Sound, Tree}
 use Rattle.tree.proofs.Lists.{acts-under, acts-over, within-rest, within-batch, acts-rest, within-joins, acts-joins, within-acts-in, find-acts-in}
 use Rattle.tree.proofs.Frames.{Took, children-took, Part, children-part, children-same, place-same}
 
+-- what a node at a level above 0 has
 pub inner-sound : (a : List Node) (l m : ℕ) (n : Node) → m ≡ suc l → Sound a m n
     → Within (n .frame .low) (n .frame .high) (n .messages) × Children a l (n .frame .low) (n .frame .high) (n .frame .children) (n .frame .pivots)
 inner-sound a l m n e s = rw e at s

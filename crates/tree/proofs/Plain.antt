@@ -1,8 +1,8 @@
 -- A leaf has only records, an inner node none: every operation keeps it so.
 use mathlib.Core.Path.{_≡_, refl, sym, subst, _∙_}
 use mathlib.Core.Logic.{_≢_, ⊎-elim}
-use mathlib.Core.List.{List, [], _∷_}
-use Prim.Native.Nat.{ℕ, zero, suc, _+_, _≤_, _<_}
+use mathlib.Core.List.{List, []}
+use Prim.Native.Nat.{ℕ, zero, suc, _≤_, _<_}
 use native.Mathlib.Omega.{arith}
 use lib.ListN.{length, take, drop, getD}
 use Rattle.std.proofs.shelf.Tests.{cases-eq, cases-lt}
@@ -11,9 +11,8 @@ use Rattle.messages.specs.Lists.{below, batch, rest}
 use Rattle.messages.specs.declared.entry.Entry.{Entry}
 use Rattle.messages.specs.declared.message.Message.{Message}
 use Rattle.tree.specs.Nodes.{Node, node}
-use Rattle.tree.specs.Operations.{absorb, absorb-messages, absorb-records, cut-root, fresh, lower-half, lower-inner, moved, split-child, upper-half, upper-inner, without-batch}
-use Rattle.tree.specs.Shape.{Tree}
-use Rattle.tree.proofs.Reached.{Child-at, Full, Reached}
+use Rattle.tree.specs.Operations.{absorb-messages, absorb-records, fresh, lower-half, lower-inner, upper-half, upper-inner}
+use Rattle.tree.proofs.Reached.{Reached}
 use Rattle.tree.proofs.Reached.Reached.{start, join, move, part, rise}
 use Rattle.tree.proofs.Invariants.{tree, splits, root-halved, level-up}
 use Rattle.tree.proofs.Move as mv

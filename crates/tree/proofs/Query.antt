@@ -1,11 +1,11 @@
 -- A query gives what stands for the key, a page what stands for the keys of a leaf.
 use mathlib.Core.Path.{_≡_, refl, ap, sym, subst, _∙_}
-use mathlib.Core.Logic.{_≢_, _⊎_, inl, inr, ⊎-elim}
-use mathlib.Core.Bool.{Bool, true, false, cond}
-use mathlib.Core.List.{List, [], _∷_, _++_}
-use Prim.Native.Nat.{ℕ, zero, suc, _+_, _-_, _*_, _%_, _^_, _≤_, _<_, max}
+use mathlib.Core.Logic.{⊎-elim}
+use mathlib.Core.List.{List, [], _∷_}
+use Prim.Native.Nat.{ℕ, zero, suc, _+_, _*_, _^_, _≤_, _<_}
+use native.Mathlib.Numerals.{add-one}
 use native.Mathlib.Omega.{arith}
-use lib.ListN.{length, getD, take, drop, length-take, length-drop}
+use lib.ListN.{length, drop, length-take, length-drop}
 use Rattle.std.specs.declared.option.Option.{Option}
 use Rattle.std.specs.declared.option.Option.the-variants.{Some, None}
 use Rattle.std.proofs.shelf.Tests.{cases-lt, cases-eq, eq-eqb, ne-eqb, lt-ltb, le-ltb}
@@ -16,12 +16,12 @@ use Rattle.messages.specs.declared.entry.Entry.{Entry}
 use Rattle.messages.specs.declared.message.Message.{Message}
 use Rattle.tree.specs.Lookup.{acts, look, lookup}
 use Rattle.tree.specs.Nodes.{Node, child, node, height}
-use Rattle.tree.specs.Query.{Answer, acted, ask, joined-before, leaf-of, leaf-frame, leaf-page, path, page, query, settle, slice, whole-page}
+use Rattle.tree.specs.Query.{Answer, acted, ask, joined-before, leaf-of, leaf-frame, leaf-page, messages-met, path, page, query, settle, slice, unsettled, whole-page}
 use Rattle.tree.specs.Shape.{In, Tree, All-sized}
 use Rattle.messages.specs.declared.message.Message.the-variants.{Put, Remove, Add}
 use Rattle.tree.proofs.Lists.{acts-under, fold-law, within-above, within-below, acts-high, acts-low, within-acts-in, find-acts-in}
 use Rattle.tree.proofs.Move.{took, inner-sound, leaf-sound}
-use Rattle.tree.proofs.Frames.{Took, Part, children-pick}
+use Rattle.tree.proofs.Frames.{children-pick}
 use Rattle.tree.proofs.Lengths.{length-acts}
 
 -- what one message, if any, makes of what a key holds
@@ -71,6 +71,22 @@ asks K a t (suc l) b k met hb e i =
           ∙ ap (acted K met) (sym (acts-find K k _ _ (node a b .messages) (look K l a d k) w)),
       settle-reads K met (find k (node a b .messages)) _ (suc l) (λ met. omega (arith, ih met .1)),
     )
+
+asks-reads : (K : Algebra) (l : ℕ) (a : List Node) (b k : ℕ) (met : Option ℕ) → ask K l a b k met .reads ≡ unsettled (messages-met l a b k)
+asks-reads K zero a b k met = refl
+asks-reads K (suc l) a b k met = go (find k (node a b .messages)) (λ met. asks-reads K l a (child (node a b .frame) k) k met)
+  where
+    go : (m : Option Message) → ((met : Option ℕ) → ask K l a (child (node a b .frame) k) k met .reads ≡ unsettled (messages-met l a (child (node a b .frame) k) k))
+        → settle K met m (λ met. let r = ask K l a (child (node a b .frame) k) k met in record { value = r .value; reads = r .reads + 1 }) .reads
+        ≡ unsettled (m ∷ messages-met l a (child (node a b .frame) k) k)
+    go None ih = rw add-one (ap suc (ih met))
+    go (Some (Put v)) ih = refl
+    go (Some Remove) ih = refl
+    go (Some (Add e)) ih = rw add-one (ap suc (ih (Some (joined-before K e met))))
+
+-- a query reads one block for each node on the way that settles nothing
+pub query-reads : (K : Algebra) (a : List Node) (k : ℕ) → query K a k .reads ≡ unsettled (messages-met (height a) a 0 k)
+query-reads K a k = asks-reads K (height a) a 0 k None
 
 pub queries : (K : Algebra) (a : List Node) → Tree a → (k : ℕ) → k < 2 ^ 32 → (query K a k .value ≡ lookup K a k) × (query K a k .reads ≤ height a)
 queries K a t k h = asks K a t (height a) 0 k None (t .has-root) refl (record { low = omega (arith, t .root-from-zero); high = omega (arith, t .root-to-end) })

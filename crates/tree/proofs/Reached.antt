@@ -1,5 +1,4 @@
 -- Trees that the operations reach in any order, and what each asks.
--- Block c is the child at place j of block p, with at least 16 messages pending.
 use mathlib.Core.Path.{_≡_}
 use mathlib.Core.Logic.{_⊎_}
 use mathlib.Core.List.{List, [], _∷_, map}
@@ -16,6 +15,7 @@ use Rattle.tree.specs.Operations.{cut-root, fresh, joined, moved, split-child}
 use Rattle.tree.specs.Shape.{Sound}
 use Rattle.tree.proofs.Wear.{Shape, shape, State}
 
+-- Block c is the child at place j of block p, with at least 16 messages pending.
 pub record Can-move (a : List Node) (p j c : ℕ) : Type 0 where
   pub p-in : p < length a
   pub j-in : j < length (node a p .frame .children)
@@ -40,6 +40,7 @@ pub record Halved (a : List Node) (q : ℕ) (x y z : Node) : Type 0 where
   pub says-z : (K : Algebra) (k : ℕ) (o : Option ℕ) → q ≤ k → k < x .frame .high
       → (find k (z .records) ≡ find k (x .records)) × (acts K k (z .messages) o ≡ acts K k (x .messages) o) × (child (z .frame) k ≡ child (x .frame) k)
 
+-- block c is the child at place j of block p, and halved at q into y and z
 pub record Can-split (a : List Node) (p j c q : ℕ) (y z : Node) : Type 0 where
   pub p-in : p < length a
   pub j-in : j < length (node a p .frame .children)
@@ -47,16 +48,18 @@ pub record Can-split (a : List Node) (p j c q : ℕ) (y z : Node) : Type 0 where
   pub inner : 0 < node a p .frame .level
   pub halves : Halved a q (node a c) y z
 
+-- a node that is due to be split
 abbrev pub Full : Node → Type 0
 Full x = ((x .frame .level ≡ 0) × (length (x .frame .children) ≡ 0) × (240 < length (x .records))) ⊎ ((0 < x .frame .level) × (length (x .frame .children) ≡ 8))
 
+-- block c is the child at place j of block p
 pub record Child-at (a : List Node) (p j c : ℕ) : Type 0 where
   pub p-in : p < length a
   pub j-in : j < length (node a p .frame .children)
   pub is : getD (node a p .frame .children) j 0 ≡ c
   pub inner : 0 < node a p .frame .level
 
--- The nodes that micro-operations reach from those laid out, with the updates so far, the newest first, and the number of moves.
+-- The trees that operations reach from a fresh one, with the messages so far, the newest first, and the number of moves.
 pub data Reached (K : Algebra) : List Node → List (Entry Message) → ℕ → Type 0 where
   start : Reached K fresh [] 0
   join : {a : List Node} {h : List (Entry Message)} {n : ℕ} (k : ℕ) (m : Message) → k < 2 ^ 32 → Reached K a h n → Reached K (joined K k m a) (entry k m ∷ h) n
@@ -64,6 +67,7 @@ pub data Reached (K : Algebra) : List Node → List (Entry Message) → ℕ → 
   part : {a : List Node} {h : List (Entry Message)} {n : ℕ} (p j c : ℕ) → Child-at a p j c → Full (node a c) → Reached K a h n → Reached K (split-child a p j c) h n
   rise : {a : List Node} {h : List (Entry Message)} {n : ℕ} → length (node a 0 .frame .children) ≡ 8 → Reached K a h n → Reached K (cut-root a) h n
 
+-- a node as the wear law sees it
 abbrev pub load-of : ℕ → Node → ℕ
 load-of zero x = length (x .records)
 load-of (suc l) x = length (x .messages)

@@ -1,11 +1,10 @@
 -- The counts of real nodes go as the counted steps do.
 use mathlib.Core.Path.{_≡_, refl, ap, sym, subst, _∙_}
-use mathlib.Core.Logic.{_≢_, _⊎_, inl, inr, ⊎-elim}
-use mathlib.Core.Bool.{Bool, true, false, cond}
+use mathlib.Core.Logic.{inl, inr}
 use mathlib.Core.List.{List, [], _∷_, _++_, map}
-use Prim.Native.Nat.{ℕ, zero, suc, _+_, _-_, _*_, _/_, _^_, _≤_, _<_, min}
+use Prim.Native.Nat.{ℕ, zero, suc, _+_, _-_, _≤_, _<_}
 use native.Mathlib.Omega.{arith}
-use lib.ListN.{length, take, drop, getD, set, length-set, length-append, length-take, length-drop}
+use lib.ListN.{length, getD, set, length-set, length-append, length-take, length-drop}
 use Rattle.std.proofs.shelf.Lists.{map-set, map-append, length-map}
 use Rattle.messages.specs.Algebra.{Algebra}
 use Rattle.messages.specs.Lists.{below, entry}
@@ -13,7 +12,7 @@ use Rattle.messages.specs.declared.entry.Entry.{Entry}
 use Rattle.messages.specs.declared.message.Message.{Message}
 use Rattle.tree.proofs.Reached.{Can-move, Child-at, Full, load-of, shape-of, worn-of}
 use Rattle.tree.proofs.Wear.{Pair, Shape, State, after-cut, after-join, after-move, after-split, at, height, shape}
-use Rattle.tree.specs.Nodes.{Node, child, node}
+use Rattle.tree.specs.Nodes.{Node, node}
 use Rattle.tree.specs.Operations.{absorb, absorb-messages, absorb-records, cut-root, half-length, joined, lower-half, lower-inner, moved, moving-batch, new-root, split, split-child, split-key, upper-half, upper-inner, with-message, with-new-child, without-batch}
 use Rattle.tree.specs.Shape.{Tree}
 use Rattle.tree.proofs.Wear.Step.{cut, join, split-inner, split-leaf, move}

@@ -1,20 +1,15 @@
 -- No node of a grown tree breaks a rule.
-use mathlib.Core.Path.{_≡_, refl, ap, sym, subst, _∙_}
-use mathlib.Core.List.{List, [], _∷_, map}
-use Prim.Native.Nat.{ℕ, zero, suc, _+_, _^_, _≤_, _<_}
+use mathlib.Core.Path.{_≡_, refl, ap, sym, subst}
+use mathlib.Core.List.{List, [], _∷_}
+use Prim.Native.Nat.{ℕ, zero, suc, _≤_, _<_}
 use native.Mathlib.Omega.{arith}
 use lib.ListN.{length, getD}
-use Rattle.std.proofs.shelf.Lists.{length-map}
-use Rattle.messages.specs.Algebra.{Algebra}
 use Rattle.messages.specs.Lists.{Within}
-use Rattle.messages.specs.declared.entry.Entry.{Entry}
-use Rattle.messages.specs.declared.message.Message.{Message}
-use Rattle.tree.specs.Laws.{Keys, Shape-law}
+use Rattle.tree.specs.Laws.{Shape-law}
 use Rattle.tree.specs.Nodes.{Frame, Node, node, height}
-use Rattle.tree.specs.Shape.{Child, Children, Sound, Tree, All-sized, Rising, Good-child, Good-node, Good-tree}
+use Rattle.tree.specs.Shape.{Rising, Good-child, Good-node, Child, Children, Tree, All-sized}
 use Rattle.tree.specs.Update.{grown}
-use Rattle.tree.proofs.Wear.{Shape, shape}
-use Rattle.tree.proofs.Reached.{shape-of}
+use Rattle.tree.proofs.Wear.{Shape}
 use Rattle.tree.proofs.Frames.{children-some}
 use Rattle.tree.proofs.Grown.{held, grown-tree}
 use Rattle.tree.proofs.Invariants.{inv, level-up}

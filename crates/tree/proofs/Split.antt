@@ -1,29 +1,29 @@
--- ---- the children of the parent, at a key
--- j is the place of c among the children
+-- A split leaves a tree, and what it says of every key.
 use mathlib.Core.Path.{_≡_, refl, ap, sym, subst, _∙_}
 use mathlib.Core.Logic.{_≢_, _⊎_, inl, inr, ⊎-elim}
-use mathlib.Core.Bool.{Bool, true, false, cond}
-use mathlib.Core.List.{List, [], _∷_, _++_}
-use Prim.Native.Nat.{ℕ, zero, suc, _+_, _-_, _*_, _^_, _≤_, _<_}
+use mathlib.Core.Bool.{false}
+use mathlib.Core.List.{List, [], _∷_}
+use Prim.Native.Nat.{ℕ, zero, suc, _+_, _^_, _≤_, _<_}
 use native.Mathlib.Omega.{arith}
-use lib.ListN.{length, take, drop, getD, set, length-set, length-append}
+use lib.ListN.{length, getD, set, length-set, length-append}
 use lib.Seq.{getD-set-same, getD-set-other}
-use lib.Dec.{eqb, ltb}
+use lib.Dec.{ltb}
 use Rattle.std.specs.declared.option.Option.{Option}
 use Rattle.std.specs.declared.option.Option.the-variants.{None}
-use Rattle.std.proofs.shelf.Tests.{cases-lt, cases-eq, ne-eqb, eq-eqb, lt-ltb, le-ltb, cond-true, cond-false}
+use Rattle.std.proofs.shelf.Tests.{cases-lt, cases-eq, lt-ltb, le-ltb}
 use Rattle.std.proofs.shelf.Lists.{getD-append-left, getD-at}
-use Rattle.std.proofs.shelf.Ways.{tells}
 use Rattle.messages.specs.Algebra.{Algebra}
 use Rattle.messages.specs.Lists.{Within, find}
 use Rattle.tree.proofs.Reached.{Can-split}
 use Rattle.tree.specs.Lookup.{acts, look, lookup}
 use Rattle.tree.specs.Nodes.{Node, child, no-node, node, pick}
 use Rattle.tree.specs.Operations.{insert, split, with-new-child}
-use Rattle.tree.specs.Shape.{Child, Children, In, Sound, Tree}
-use Rattle.tree.proofs.Frames.{Took, children-took, Part, children-part, children-same, children-some, place-same, Place, child-same, part-wider, part-child, in-or-out, sound-same}
-use Rattle.tree.proofs.Move.{inner-sound, leaf-sound, took}
+use Rattle.tree.specs.Shape.{In, Child, Children, Sound, Tree}
+use Rattle.tree.proofs.Frames.{Took, Part, children-part, children-same, children-some, place-same, Place, child-same, part-wider, part-child, in-or-out, sound-same}
+use Rattle.tree.proofs.Move.{inner-sound, took}
 
+-- ---- the children of the parent, at a key
+-- j is the place of c among the children
 pick-low : (a : List Node) (l low high : ℕ) (cs ps : List ℕ) (j q n k : ℕ) → Children a l low high cs ps → j < length cs → low ≤ k
     → In k (node a (getD cs j 0) .frame) → k < q → node a (getD cs j 0) .frame .low < q → q < node a (getD cs j 0) .frame .high
     → pick (insert (suc j) n cs) (insert j q ps) k ≡ getD cs j 0

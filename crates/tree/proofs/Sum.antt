@@ -3,10 +3,10 @@ use mathlib.Core.Path.{_≡_, refl, ap, sym, subst, _∙_}
 use mathlib.Core.Logic.{_≢_, ⊎-elim}
 use mathlib.Core.Bool.{cond}
 use mathlib.Core.List.{List, [], _∷_}
-use Prim.Native.Nat.{ℕ, zero, suc, _+_, _-_, _*_, _%_, _^_, _≤_, _<_}
+use Prim.Native.Nat.{ℕ, suc, _+_, _-_, _*_, _%_, _^_, _≤_, _<_}
 use native.Mathlib.Omega.{arith}
 use lib.Dec.{ltb, eqb}
-use lib.IntN.{ℤ, pos, negsuc, natAbs, _+ℤ_}
+use lib.IntN.{pos, natAbs, _+ℤ_}
 use lib.ListN.{length}
 use Rattle.std.specs.declared.option.Option.{Option}
 use Rattle.std.specs.declared.option.Option.the-variants.{Some, None}
@@ -20,8 +20,9 @@ use Rattle.messages.specs.Words.{signed}
 use Rattle.messages.specs.declared.entry.Entry.{Entry}
 use Rattle.messages.specs.declared.message.Message.{Message}
 use Rattle.messages.specs.declared.message.Message.the-variants.{Put, Remove, Add}
-use Rattle.tree.specs.Laws.{Amount, Amounts, sum-of-words, sum-of-numbers}
+use Rattle.tree.specs.Laws.{Amount, Amounts, meaning, numbered, number-said, sum-of-words, sum-of-numbers}
 use Rattle.tree.specs.Lookup.{said}
+use Rattle.tree.proofs.Lengths.{cases-bool}
 
 -- a word read as signed is its up less its down
 abbrev up : ℕ → ℕ
@@ -160,3 +161,37 @@ exact-sum m h low high xs b small w f =
     let s = sum-parts (sum-of-words xs) (sum-by up xs) (sum-by down xs) (i .carried) (i .of-words)
     (omega (arith, sizes-are h low high xs w f, sizes-all m h low high xs b w)) in
     omega (arith, ints, s, i .of-numbers)
+
+-- ---- one key
+said-size : (m k : ℕ) (h : List (Entry Message)) → Amounts m h → size (said quantity-algebra k h) ≤ m * length h
+said-size m k [] b = omega arith
+said-size m k (x ∷ h) b =
+    let i = said-size m k h (b .1) in
+    cond-both (eqb (x .key) k) _ _ (λ o. size o ≤ m * suc (length h))
+    (λ _. omega (arith, effect-size m (x .value) (said quantity-algebra k h) (b .0) (said-word m k h (b .1)) .0))
+    (λ _. omega arith)
+
+-- a sum of two words of small numbers does not wrap
+signed-add : (v d : ℕ) → v < 2 ^ 64 → d < 2 ^ 64 → up v + down v + (up d + down d) < 2 ^ 63 → signed ((v + d) % 2 ^ 64) ≡ signed v +ℤ signed d
+signed-add v d hv hd small =
+    let c = carry v hv in
+    let e = carry d hd in
+    let s = sum-parts (v + d) (up v + up d) (down v + down d) (cond (ltb v (2 ^ 63)) 0 1 + cond (ltb d (2 ^ 63)) 0 1) (omega arith) (omega arith) in
+    omega (arith, ints, s, signed-parts v hv, signed-parts d hd)
+
+numbered-effect : (m n : ℕ) (g : Message) (o : Option ℕ) → Amount m g → Word o → size o ≤ n → n + m < 2 ^ 63 → meaning (effect quantity-algebra g o) ≡ numbered g (meaning o)
+numbered-effect m n (Put v) o b w s small = refl
+numbered-effect m n Remove o b w s small = refl
+numbered-effect m n (Add d) None b w s small =
+    let p = size-parts d (b .0) in
+    ap Some (signed-add 0 d (omega arith) (b .0) (omega (arith, b .1)) ∙ omega (arith, ints))
+numbered-effect m n (Add d) (Some v) b w s small = let p = size-parts d (b .0) in ap Some (signed-add v d w (b .0) (omega (arith, b .1)))
+
+pub exact-quantity : (m k : ℕ) (h : List (Entry Message)) → Amounts m h → m * length h < 2 ^ 63 → meaning (said quantity-algebra k h) ≡ number-said k h
+exact-quantity m k [] b small = refl
+exact-quantity m k (x ∷ h) b small =
+    let i = exact-quantity m k h (b .1) (omega arith) in
+    let e = numbered-effect m (m * length h) (x .value) (said quantity-algebra k h) (b .0) (said-word m k h (b .1)) (said-size m k h (b .1)) (omega arith) in
+    cases-bool (eqb (x .key) k) (λ t. meaning (cond t (effect quantity-algebra (x .value) (said quantity-algebra k h)) (said quantity-algebra k h))
+    ≡ cond t (numbered (x .value) (number-said k h)) (number-said k h))
+    (e ∙ ap (numbered (x .value)) i) i

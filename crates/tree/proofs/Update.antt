@@ -1,13 +1,14 @@
+-- An update is made of operations, keeps all sizes, and writes what is counted.
 use mathlib.Core.Path.{_≡_, refl, ap, sym, subst, _∙_}
-use mathlib.Core.Logic.{_≢_, _⊎_, inl, inr, ⊎-elim}
+use mathlib.Core.Logic.{_≢_, inl, inr, ⊎-elim}
 use mathlib.Core.Bool.{Bool, true, false, cond}
-use mathlib.Core.List.{List, [], _∷_, _++_, map}
-use Prim.Native.Nat.{ℕ, zero, suc, _+_, _-_, _*_, _/_, _^_, _≤_, _<_, min}
+use mathlib.Core.List.{List, _∷_}
+use Prim.Native.Nat.{ℕ, zero, suc, _+_, _-_, _^_, _≤_, _<_}
 use native.Mathlib.Omega.{arith}
-use lib.ListN.{length, take, drop, getD, set, length-set, length-append, length-take, length-drop}
+use lib.ListN.{length, take, drop, length-set, length-append, length-take, length-drop}
 use lib.Dec.{eqb, ltb}
 use Rattle.std.proofs.shelf.Edits.{length-inserted, getD-inserted-below, getD-inserted-at}
-use Rattle.std.proofs.shelf.Tests.{cases-lt, cases-eq, cond-both, ltb-true, ltb-false, eqb-true, eqb-false}
+use Rattle.std.proofs.shelf.Tests.{cases-lt, cases-eq, ltb-true, ltb-false, eqb-true, eqb-false}
 use Rattle.tree.proofs.Move as mv
 use Rattle.tree.proofs.Split as sp
 use Rattle.tree.proofs.Cut as ct
@@ -16,15 +17,16 @@ use Rattle.messages.specs.Lists.{below, entry, pending}
 use Rattle.messages.specs.declared.entry.Entry.{Entry}
 use Rattle.messages.specs.declared.message.Message.{Message}
 use Rattle.tree.proofs.Reached.{Can-move, Can-split, Child-at, Full, Reached}
-use Rattle.tree.specs.Nodes.{Node, child, node}
-use Rattle.tree.specs.Operations.{absorb, cut-root, insert, joined, lower-half, moved, moving-batch, split, split-child, split-key, upper-half, with-new-child}
+use Rattle.tree.specs.Nodes.{Node, node}
+use Rattle.tree.specs.Operations.{absorb, cut-root, insert, joined, lower-half, moved, moving-batch, split-child, split-key, upper-half, with-new-child}
 use Rattle.tree.specs.Shape.{All-sized, Sized, Tree}
 use Rattle.tree.specs.Update.{after-step, busiest-child, busiest-place, full-at, is-full, pending-for, raised, run-steps, step-writes, target, update, upper-goes-on, writes, prepared}
 use Rattle.tree.proofs.Reached.Reached.{join as r-join, move as r-move, part as r-part, rise as r-rise}
 use Rattle.tree.proofs.Frames.{Part, children-part}
-use Rattle.tree.proofs.Lengths.{length-join, length-joins, length-acts, length-rest, length-batch, below-le, crowded, below-mono}
-use Rattle.tree.proofs.Invariants.{level-up, under-in, splits, root-halved, tree}
+use Rattle.tree.proofs.Lengths.{length-join, length-joins, length-acts, length-rest, length-batch, below-le, length-raised, crowded, below-mono}
+use Rattle.tree.proofs.Invariants.{level-up, splits, root-halved, tree}
 
+-- all nodes but the current one have their sizes
 abbrev pub Rest : List Node → ℕ → Type 0
 Rest a p = (b : ℕ) → b < length a → b ≢ p → Sized 256 8 b (node a b)
 
@@ -154,7 +156,7 @@ module _ (a : List Node) (t : Tree a) (p j c l : ℕ) (u : Child-at a p j c) (pl
   pub new-n : node (split-child a p j c) (length a) ≡ Z
   new-n = sp.at-new a t p j c Q l Y Z S pl
 
-  -- a slim node has room for one more child
+  -- a node of at most 7 children has room for one more
   pub wider : (b : ℕ) (x : Node) → Sized 256 7 b x → Sized 256 8 b x
   wider b x s = record { messages-le = s .messages-le; records-le = s .records-le; children-le = omega (arith, s .children-le); leaf = s .leaf; bare = s .bare; inner = s .inner }
 
@@ -441,13 +443,6 @@ raised-ok K h n a r s = go (eqb (length (node a 0 .frame .children)) 8) refl
     )
     go false e = (r, (s, omega (arith, eqb-false _ _ e, s 0 (t .has-root) .children-le)))
 
-pub raised-length : (K : Algebra) (h : List (Entry Message)) (n : ℕ) (a : List Node) → Reached K a h n → length (raised a) ≡ length a + cond (eqb (length (node a 0 .frame .children)) 8) 2 0
-raised-length K h n a r = go (eqb (length (node a 0 .frame .children)) 8)
-  where
-    go : (b : Bool) → length (cond b (cut-root a) a) ≡ length a + cond b 2 0
-    go true = simp (length-append, length-set)
-    go false = omega arith
-
 -- the root with the message, as the current node
 pub starts : (K : Algebra) (a : List Node) (h : List (Entry Message)) (n k : ℕ) (m : Message) → k < 2 ^ 32 → Reached K a h n → All-sized a
     → Going K (entry k m ∷ h) (node (raised a) 0 .frame .level) (joined K k m (raised a)) 0
@@ -455,19 +450,19 @@ starts K a h n k m lt r s =
     let o = raised-ok K h n a r s in
     let b = raised a in
     let t = tree K b h n (o .0) in
-    let slim = o .1 .0 0 (t .has-root) in
+    let root = o .1 .0 0 (t .has-root) in
     let ln = length-join K k m (node b 0 .messages) in
     record {
       moves = n;
       reached = r-join k m lt (o .0);
       others = λ d i e. rw (ct.join-at-else K b t k m lt d (omega arith)) (o .1 .0 d (omega (arith, ct.join-len K b t k m lt)));
       here = rw (ct.join-at-root K b t k m lt) (record {
-        messages-le = omega (arith, slim .messages-le);
-        records-le = slim .records-le;
+        messages-le = omega (arith, root .messages-le);
+        records-le = root .records-le;
         children-le = o .1 .1;
-        leaf = slim .leaf;
+        leaf = root .leaf;
         bare = λ g. absurd (omega (arith, t .root-inner));
-        inner = slim .inner;
+        inner = root .inner;
       });
       inside = omega (arith, ct.join-len K b t k m lt, t .has-root);
       level-is = ap (λ (x : Node). x .frame .level) (ct.join-at-root K b t k m lt);
@@ -485,5 +480,5 @@ updated K a h n k m lt r s =
       moves = d .moves;
       reached = d .reached;
       sized = d .sized;
-      tally = omega (arith, d .tally, raised-length K h n a r, ct.join-len K b t k m lt, own-writes K (node b 0 .frame .level) (joined K k m b) 0 0);
+      tally = omega (arith, d .tally, length-raised a, ct.join-len K b t k m lt, own-writes K (node b 0 .frame .level) (joined K k m b) 0 0);
     }

@@ -1,6 +1,5 @@
 -- Nodes as the wear law sees them, and the steps that it counts.
 use mathlib.Core.Path.{_≡_}
-use mathlib.Core.Logic.{_≢_}
 use mathlib.Core.List.{List, [], _∷_, _++_}
 use Prim.Native.Nat.{ℕ, zero, suc, _+_, _-_, _*_, _^_, _≤_, _<_, max}
 use lib.ListN.{length, getD, set}
@@ -26,9 +25,11 @@ same zero (suc n) = 0
 same (suc m) zero = 0
 same (suc m) (suc n) = same m n
 
+-- how far the messages of a node have to fall
 abbrev pub weight : Shape → ℕ
 weight n = n .level * n .load
 
+-- the load of a node, a leaf's counted as at least 120
 abbrev pub bulk-of : ℕ → ℕ → ℕ
 bulk-of zero m = max 120 m
 bulk-of (suc l) m = m
@@ -36,6 +37,7 @@ bulk-of (suc l) m = m
 abbrev pub bulk : Shape → ℕ
 bulk n = bulk-of (n .level) (n .load)
 
+-- 1 for an inner node
 abbrev pub inner-of : ℕ → ℕ
 inner-of zero = 0
 inner-of (suc l) = 1
@@ -46,6 +48,7 @@ inner n = inner-of (n .level)
 abbrev pub children-of : Shape → ℕ
 children-of n = n .children
 
+-- the children, and 1, of a node of level k
 abbrev pub children-at : ℕ → Shape → ℕ
 children-at k n = same (n .level) k * n .children
 
@@ -68,6 +71,7 @@ height s = at s 0 .level
 abbrev pub start : State
 start = record { blocks = shape 1 0 1 ∷ shape 0 0 0 ∷ []; updates = 0; moves = 0; writes = 0 }
 
+-- what each step leaves, with the new loads as it gives them
 abbrev pub after-cut : State → ℕ → ℕ → State
 after-cut s m₁ m₂ =
     record {
@@ -121,15 +125,8 @@ pub data Step (s : State) : State → Type 0 where
       → 120 ≤ m₁ → 120 ≤ m₂ → Step s (after-split s p c m₁ 0 m₂ 0)
   move : (p c m : ℕ) → Pair s p c → 16 ≤ at s p .load → m ≤ at s c .load + 16 → Step s (after-move s p c m)
 
-pub data Run : State → State → Type 0 where
-  done : {s : State} → Run s s
-  more : {s t u : State} → Run s t → Step t u → Run s u
-
 -- What is shown of every state that a run from the start reaches.
 pub record Worn (s : State) : Type 0 where
   pub pace : 16 * s .writes ≤ s .updates * (height s + 1)
   pub tall : 2 ≤ height s → 113 * (2 * 4 ^ (height s - 1) - 1) ≤ s .updates
   pub room : 226 * (length (s .blocks) - 2) ≤ 3 * s .updates
-
-abbrev pub Wear : Type 0
-Wear = (s : State) → Run start s → Worn s

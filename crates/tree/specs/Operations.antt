@@ -6,7 +6,7 @@ use Rattle.messages.specs.Algebra.{Algebra}
 use Rattle.messages.specs.Lists.{join-in, joins, acts-in, below, batch, rest}
 use Rattle.messages.specs.declared.entry.Entry.{Entry}
 use Rattle.messages.specs.declared.message.Message.{Message}
-use Rattle.tree.specs.Nodes.{Frame, Node, node}
+use Rattle.tree.specs.Nodes.{Node, node}
 
 -- a tree just made: a root of level 1 over one empty leaf
 abbrev pub fresh : List Node

@@ -46,6 +46,19 @@ ask K (suc l) a b k met =
 abbrev pub query : Algebra → List Node → ℕ → Answer
 query K a k = ask K (height a) a 0 k None
 
+-- the messages for a key on its way from a block of level l down, if a node has one
+abbrev pub messages-met : ℕ → List Node → ℕ → ℕ → List (Option Message)
+messages-met zero a b k = []
+messages-met (suc l) a b k = find k (node a b .messages) ∷ messages-met l a (child (node a b .frame) k) k
+
+-- how many come before the first put or remove
+abbrev pub unsettled : List (Option Message) → ℕ
+unsettled [] = 0
+unsettled (None ∷ ms) = suc (unsettled ms)
+unsettled (Some (Put v) ∷ ms) = 0
+unsettled (Some Remove ∷ ms) = 0
+unsettled (Some (Add d) ∷ ms) = suc (unsettled ms)
+
 -- ---- a page
 -- the entries with keys from low on and below high, where keys rise
 abbrev pub slice : {V : Type 0} → ℕ → ℕ → List (Entry V) → List (Entry V)

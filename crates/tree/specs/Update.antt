@@ -65,12 +65,20 @@ abbrev pub run-steps : Algebra → ℕ → List Node → ℕ → List Node
 run-steps K zero a p = a
 run-steps K (suc l) a p = cond (ltb most-entries (length (node a p .messages))) (run-steps K l (after-step K a p) (target a p)) a
 
+-- how many steps, and so batches, that is
+abbrev pub steps-made : Algebra → ℕ → List Node → ℕ → ℕ
+steps-made K zero a p = 0
+steps-made K (suc l) a p = cond (ltb most-entries (length (node a p .messages))) (suc (steps-made K l (after-step K a p) (target a p))) 0
+
 -- a root of 8 children is cut
 abbrev pub raised : List Node → List Node
 raised a = cond (eqb (length (node a 0 .frame .children)) most-children) (cut-root a) a
 
 abbrev pub update : Algebra → ℕ → Message → List Node → List Node
 update K k m a = run-steps K (height (raised a)) (joined K k m (raised a)) 0
+
+abbrev pub batches : Algebra → ℕ → Message → List Node → ℕ
+batches K k m a = steps-made K (height (raised a)) (joined K k m (raised a)) 0
 
 -- ---- the writes
 -- each step writes the half that does not go on, if it split; a current node is written once its steps are done, unless it is the root.
@@ -97,3 +105,8 @@ grown K (e ∷ h) = update K (e .key) (e .value) (grown K h)
 abbrev pub tree-writes : Algebra → List (Entry Message) → ℕ
 tree-writes K [] = 0
 tree-writes K (e ∷ h) = tree-writes K h + writes K (e .key) (e .value) (grown K h)
+
+-- and the batches that they moved
+abbrev pub batches-moved : Algebra → List (Entry Message) → ℕ
+batches-moved K [] = 0
+batches-moved K (e ∷ h) = batches-moved K h + batches K (e .key) (e .value) (grown K h)

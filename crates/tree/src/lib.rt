@@ -1,7 +1,7 @@
 // The tree as a value, defined in specs/, and its laws: each function here computes nothing, and its contract is a theorem.
 ghost use Prim.Native.Nat.{ℕ};
 ghost use Rattle.messages.specs.Algebra.{Algebra};
-ghost use Rattle.tree.specs.Laws.{Map-law, Update-law, Page-law, Total-law, Sum-law, Shape-law, Batch-law, Wear-law, Cost-law, Known-run};
+ghost use Rattle.tree.specs.Laws.{Map-law, Update-law, Page-law, Total-law, Sum-law, Shape-law, Batch-law, Choice-law, Split-law, Wear-law, Cost-law, Known-run};
 
 // A query finds what the messages say of the key, in order, and reads at most as many blocks as the tree is high.
 pub fn map_law_holds()
@@ -23,7 +23,7 @@ pub fn total_law_holds()
     ensures { λ _. ⌜ Total-law ⌝ }
 {}
 
-// With amounts of at most 10^9 and at most 2^32 updates, the signed sum of a range is exact.
+// With amounts of at most 10^9 and at most 2^32 updates, each quantity and the sum of a range are the true numbers.
 pub fn sum_law_holds()
     ensures { λ _. ⌜ Sum-law ⌝ }
 {}
@@ -36,6 +36,16 @@ pub fn shape_law_holds()
 // Each step of an update moves a full batch.
 pub fn batch_law_holds()
     ensures { λ _. ⌜ Batch-law ⌝ }
+{}
+
+// Messages go to the child with most pending, the lowest at a tie, and to the half with more, the lower at a tie.
+pub fn choice_law_holds()
+    ensures { λ _. ⌜ Choice-law ⌝ }
+{}
+
+// A split loses nothing, and halves evenly.
+pub fn split_law_holds()
+    ensures { λ _. ⌜ Split-law ⌝ }
 {}
 
 // 16 × tree writes ≤ updates × (height + 1), and a high tree has taken many updates.

@@ -1,13 +1,11 @@
-use mathlib.Core.Path.{_≡_, sym, ap, _∙_}
-use mathlib.Core.List.{List, _++_}
-use Prim.Native.Nat.{ℕ, _+_, _-_, _≤_, min}
+use mathlib.Core.Path.{_≡_, ap, _∙_}
+use mathlib.Core.List.{_++_}
+use Prim.Native.Nat.{_+_, _≤_}
 use native.Mathlib.Omega.{arith}
 use lib.ListN.{length, take, drop}
-use Rattle.std.specs.Of.Vec.{vec-items, vec-len}
+use Rattle.std.specs.Of.Vec.{vec-items}
 use Rattle.std.proofs.Told.{chosen}
-use Rattle.messages.specs.Lists.{below, batch-size, batch, rest}
-use Rattle.messages.specs.declared.entry.Entry.{Entry}
-use Rattle.messages.specs.declared.message.Message.{Message}
+use Rattle.messages.specs.Lists.{below, batch-size}
 use Rattle.messages.proofs.Batches.{run-removed, run-read, length-run}
 use Rattle.messages.proofs.Places.{below-length}
 use Rattle.messages.proofs.list.take_batch.Needs as need
