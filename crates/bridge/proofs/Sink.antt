@@ -20,11 +20,11 @@ use Rattle.plan.specs.Images.Try.{done}
 use Rattle.plan.specs.Steps.{Step, Sunk, Settled, finish, step, sink, settle}
 use Rattle.tree.specs.Nodes.{Node, no-node, node}
 use Rattle.tree.specs.Operations.{lower-half, split-child, split-key, upper-half, with-new-child}
-use Rattle.tree.specs.Update.{after-step, busiest-child, busiest-place, is-full, run-steps, step-writes, target, upper-goes-on}
+use Rattle.tree.specs.Update.{after-step, busiest-child, busiest-place, is-full, run-steps, step-writes, steps-made, target, upper-goes-on}
 use Rattle.tree.proofs.Update as up
 use Rattle.tree.proofs.Update.{Going}
 use Rattle.bridge.specs.Stored.{most-levels, Words-fit, Round-trip, Stored}
-use Rattle.bridge.specs.Work.{All-sound, Work, step-reads}
+use Rattle.bridge.specs.Work.{All-sound, Work}
 use Rattle.bridge.proofs.Outcomes.{Ends, ends-with, bind-ends, save-then}
 use Rattle.bridge.proofs.Step.{Holding, After, length-step, step-ends}
 use Rattle.bridge.proofs.Working.{same-work, write-more, wrote}
@@ -120,7 +120,7 @@ module _ (C : Code) (T : Round-trip C) (d : Image) (n : ℕ) (inside : n ≤ d .
   pub sink-ends : (l : ℕ) → l ≤ most-levels → (a : List Node) (p : ℕ) (g : Going K h l a p) → 0 < p → node a p .frame .high ≤ 2 ^ 32 → length (run-steps K l a p) ≤ n
       → (e : Image) (u r w : ℕ) → Holding C e a p p → Work d e r w n
       → Ends (All-sound d) (sink C l e (length a) u p (node a p))
-      (Sank C d (u + step-writes K l a p 1) (r + step-reads K l a p) (w + step-writes K l a p 1) n (run-steps K l a p) (node a 0))
+      (Sank C d (u + step-writes K l a p 1) (r + steps-made K l a p) (w + step-writes K l a p 1) n (run-steps K l a p) (node a 0))
   sink-ends zero lev a p g pos span room e u r w st k = ended a p pos (omega (arith, g .inside)) e u r w st k
   sink-ends (suc l) lev a p g pos span room e u r w st k = go (ltb 256 (length (node a p .messages))) refl room
       (λ g′ pos′ span′ room′ e′ u′ r′ w′ st′ k′. sink-ends l (omega arith) (after-step K a p) (target a p) g′ pos′ span′ room′ e′ u′ r′ w′ st′ k′)
@@ -129,10 +129,10 @@ module _ (C : Code) (T : Round-trip C) (d : Image) (n : ℕ) (inside : n ≤ d .
           → (Going K h l (after-step K a p) (target a p) → 0 < target a p → node (after-step K a p) (target a p) .frame .high ≤ 2 ^ 32 → length (run-steps K l (after-step K a p) (target a p)) ≤ n
           → (e : Image) (u r w : ℕ) → Holding C e (after-step K a p) (target a p) (target a p) → Work d e r w n
           → Ends (All-sound d) (sink C l e (length (after-step K a p)) u (target a p) (node (after-step K a p) (target a p)))
-          (Sank C d (u + step-writes K l (after-step K a p) (target a p) 1) (r + step-reads K l (after-step K a p) (target a p)) (w + step-writes K l (after-step K a p) (target a p) 1) n (run-steps K l (after-step K a p) (target a p)) (node (after-step K a p) 0)))
+          (Sank C d (u + step-writes K l (after-step K a p) (target a p) 1) (r + steps-made K l (after-step K a p) (target a p)) (w + step-writes K l (after-step K a p) (target a p) 1) n (run-steps K l (after-step K a p) (target a p)) (node (after-step K a p) 0)))
           → Ends (All-sound d) (cond b (bind (step C e (length a) u (node a p)) (onward C l p)) (finish C e (length a) u p (node a p)))
           (Sank C d (u + cond b (cond (is-full (node a (busiest-child a p))) 1 0 + 1 + step-writes K l (after-step K a p) (target a p) 1) 1)
-          (r + cond b (step-reads K l (after-step K a p) (target a p) + 1) 0)
+          (r + cond b (suc (steps-made K l (after-step K a p) (target a p))) 0)
           (w + cond b (cond (is-full (node a (busiest-child a p))) 1 0 + 1 + step-writes K l (after-step K a p) (target a p) 1) 1)
           n (cond b (run-steps K l (after-step K a p) (target a p)) a) (node a 0))
       go true f room ih =
@@ -141,7 +141,7 @@ module _ (C : Code) (T : Round-trip C) (d : Image) (n : ℕ) (inside : n ≤ d .
           let b = after-step K a p in
           let c = target a p in
           let x = step-writes K l b c 1 in
-          let y = step-reads K l b c in
+          let y = steps-made K l b c in
           let v : ℕ = cond full 1 0 in
           let len = length-steps K l b c in
           bind-ends (All-sound d) (step C e (length a) u (node a p)) (onward C l p) _ _
@@ -170,14 +170,14 @@ module _ (C : Code) (T : Round-trip C) (d : Image) (n : ℕ) (inside : n ≤ d .
   pub settle-ends : (l : ℕ) → 0 < l → l ≤ most-levels → (a : List Node) (g : Going K h l a 0) → node a 0 .frame .high ≤ 2 ^ 32 → length (run-steps K l a 0) ≤ n
       → (e : Image) (u r w : ℕ) → u < 2 ^ 64 → Stored C e a → Work d e r w n
       → Ends (All-sound d) (settle C e (length a) u (node a 0))
-      (Came C d (u + step-writes K l a 0 0) (r + step-reads K l a 0) (w + step-writes K l a 0 0) n (run-steps K l a 0))
+      (Came C d (u + step-writes K l a 0 0) (r + steps-made K l a 0) (w + step-writes K l a 0 0) n (run-steps K l a 0))
   settle-ends zero pos lev a g span room e u r w small st k = absurd (omega arith)
   settle-ends (suc l) pos lev a g span room e u r w small st k = go (ltb 256 (length (node a 0 .messages))) refl room
     where
       go : (b : Bool) → ltb 256 (length (node a 0 .messages)) ≡ b → length (cond b (run-steps K l (after-step K a 0) (target a 0)) a) ≤ n
           → Ends (All-sound d) (cond b (bind (step C e (length a) u (node a 0)) (below-root C (node a 0 .frame .level - 1))) (done (record { image = e; next = length a; writes = u; root = node a 0 })))
           (Came C d (u + cond b (cond (is-full (node a (busiest-child a 0))) 1 0 + 0 + step-writes K l (after-step K a 0) (target a 0) 1) 0)
-          (r + cond b (step-reads K l (after-step K a 0) (target a 0) + 1) 0)
+          (r + cond b (suc (steps-made K l (after-step K a 0) (target a 0))) 0)
           (w + cond b (cond (is-full (node a (busiest-child a 0))) 1 0 + 0 + step-writes K l (after-step K a 0) (target a 0) 1) 0)
           n (cond b (run-steps K l (after-step K a 0) (target a 0)) a))
       go true f room =
@@ -186,7 +186,7 @@ module _ (C : Code) (T : Round-trip C) (d : Image) (n : ℕ) (inside : n ≤ d .
           let b = after-step K a 0 in
           let c = target a 0 in
           let x = step-writes K l b c 1 in
-          let y = step-reads K l b c in
+          let y = steps-made K l b c in
           let v : ℕ = cond full 1 0 in
           let len = length-steps K l b c in
           let level : node a 0 .frame .level - 1 ≡ l = omega (arith, g .level-is) in

@@ -31,7 +31,7 @@ use Rattle.tree.proofs.Update as up
 use Rattle.tree.proofs.Update.{Going}
 use Rattle.bridge.specs.Laws.{Room, Updated, Update-carries-over, Update-bridge}
 use Rattle.bridge.specs.Stored.{most-levels, Word-fits, Words-fit, Round-trip, Stored}
-use Rattle.bridge.specs.Work.{All-sound, Work, step-reads, update-reads}
+use Rattle.bridge.specs.Work.{All-sound, Work}
 use Rattle.bridge.proofs.Outcomes.{Ends, ends-with, bind-ends, save-then, when-accepted, never-stops}
 use Rattle.bridge.proofs.Sink.{Came, length-steps, settle-ends}
 use Rattle.bridge.proofs.Words.{lower-inner-fits, upper-inner-fits, with-message-fits}

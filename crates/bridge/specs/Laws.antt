@@ -14,9 +14,9 @@ use Rattle.plan.specs.Steps.{Settled, updated}
 use Rattle.tree.specs.Laws.{Keys}
 use Rattle.tree.specs.Nodes.{Node, node, height, next-free}
 use Rattle.tree.specs.Query.{query}
-use Rattle.tree.specs.Update.{raised, update, writes, grown}
+use Rattle.tree.specs.Update.{raised, update, writes, batches, grown}
 use Rattle.bridge.specs.Stored.{most-levels, Word-fits, Round-trip, Stored}
-use Rattle.bridge.specs.Work.{All-sound, Work, update-reads}
+use Rattle.bridge.specs.Work.{All-sound, Work}
 
 -- ---- an update
 -- an update of a tree has room on a device: blocks for a full way down, and levels for a new root
@@ -25,13 +25,14 @@ pub record Room (d : Image) (a : List Node) : Type 0 where
   pub size-fits : d .size ≤ most-blocks
   pub levels : height (raised a) ≤ most-levels
 
--- what comes of an update of the tree a on the image d, with w tree writes before: the updated tree, and just its reads and writes
+-- what comes of an update of the tree a on the image d, with w tree writes before: the updated tree, one read for each batch that
+-- moves, and just the tree's writes
 pub record Updated (C : Code) (d : Image) (w : ℕ) (a : List Node) (k : ℕ) (m : Message) (s : Settled) : Type 0 where
   pub root-is : s .root ≡ node (update (C .algebra) k m a) 0
   pub next-is : s .next ≡ next-free (update (C .algebra) k m a)
   pub tree-writes-rise : s .writes ≡ (w + writes (C .algebra) k m a) % 2 ^ 64
   pub stored : Stored C (s .image) (update (C .algebra) k m a)
-  pub work : Work d (s .image) (update-reads (C .algebra) k m a) (writes (C .algebra) k m a) (next-free (update (C .algebra) k m a))
+  pub work : Work d (s .image) (batches (C .algebra) k m a) (writes (C .algebra) k m a) (next-free (update (C .algebra) k m a))
 
 pub record Update-carries-over (C : Code) (d : Image) (w : ℕ) (a : List Node) (k : ℕ) (m : Message) : Type 0 where
   pub accepted : (s : Settled) → updated C d (next-free a) w (node a 0) k m ≡ done s → Updated C d w a k m s
