@@ -6,4 +6,6 @@ pub mod Children
 pub mod Step
 pub mod Sink
 pub mod Update
+pub mod Descent
 pub mod Query
+pub mod Page

@@ -1,6 +1,6 @@
 -- The laws of blocks that hold a tree: what is done to the blocks is what is done to the tree. Each is the contract of a function in src/lib.rt.
 use mathlib.Core.Path.{_≡_}
-use mathlib.Core.List.{List}
+use mathlib.Core.List.{List, []}
 use Prim.Native.Nat.{ℕ, _+_, _%_, _^_, _≤_, _<_}
 use Rattle.std.specs.declared.option.Option.the-variants.{None}
 use Rattle.blocks.specs.Media.{most-blocks}
@@ -9,11 +9,12 @@ use Rattle.messages.specs.declared.message.Message.{Message}
 use Rattle.plan.specs.Codes.{Code}
 use Rattle.plan.specs.Images.{Image, Try}
 use Rattle.plan.specs.Images.Try.{done}
+use Rattle.plan.specs.Pages.{Paged, page-from}
 use Rattle.plan.specs.Queries.{Answered, seek}
 use Rattle.plan.specs.Steps.{Settled, updated}
 use Rattle.tree.specs.Laws.{Keys}
 use Rattle.tree.specs.Nodes.{Node, node, height, next-free}
-use Rattle.tree.specs.Query.{query}
+use Rattle.tree.specs.Query.{query, page}
 use Rattle.tree.specs.Update.{raised, update, writes, batches, grown}
 use Rattle.bridge.specs.Stored.{most-levels, Word-fits, Round-trip, Stored}
 use Rattle.bridge.specs.Work.{All-sound, Work}
@@ -62,3 +63,19 @@ pub record On-device (d : Image) (a : List Node) : Type 0 where
 abbrev pub Query-bridge : Type 0
 Query-bridge = (C : Code) → Round-trip C → (h : List (Entry Message)) → Keys h → let a = grown (C .algebra) h in
     (d : Image) → Stored C d a → On-device d a → (k : ℕ) → Query-carries-over C d a k
+
+-- ---- a page
+-- what comes of a page of the tree a on the image d: the tree's page, and just the blocks read for it
+pub record Page-found (C : Code) (d : Image) (a : List Node) (first last : ℕ) (s : Paged) : Type 0 where
+  pub entries-are : s .entries ≡ page (C .algebra) a first last .entries
+  pub next-is : s .next ≡ page (C .algebra) a first last .next
+  pub reads-are : s .reads ≡ page (C .algebra) a first last .reads
+  pub work : Work d (s .image) (page (C .algebra) a first last .reads) 0 0
+
+pub record Page-carries-over (C : Code) (d : Image) (a : List Node) (first last : ℕ) : Type 0 where
+  pub accepted : (s : Paged) → page-from C (height a) d (next-free a) (node a 0) first last [] 0 ≡ done s → Page-found C d a first last s
+  pub never-stops : All-sound d → (s : Paged) × (page-from C (height a) d (next-free a) (node a 0) first last [] 0 ≡ done s)
+
+abbrev pub Page-bridge : Type 0
+Page-bridge = (C : Code) → Round-trip C → (h : List (Entry Message)) → Keys h → let a = grown (C .algebra) h in
+    (d : Image) → Stored C d a → On-device d a → (first last : ℕ) → first ≤ last → last < 2 ^ 32 → Page-carries-over C d a first last
