@@ -10,12 +10,12 @@ use lib.ListN.{length, getD, set, take, drop}
 use Rattle.std.specs.declared.option.Option.{Option}
 use Rattle.std.specs.declared.option.Option.the-variants.{Some, None}
 use Rattle.std.proofs.shelf.Lists.{at-drop-more, at-drop-all, set-split, take-append-drop}
-use Rattle.std.proofs.shelf.Tests.{cases-lt}
+use Rattle.std.proofs.shelf.Tests.{cases-lt, le-ltb}
 use Rattle.std.proofs.shelf.Ways.{tells}
 use Rattle.std.specs.Holes.{inserted, removed}
 use Rattle.messages.specs.Algebra.{Algebra}
 use Rattle.messages.specs.Messages.{effect, fold}
-use Rattle.messages.specs.Lists.{entry, below, find, join-in, act-in, put-first}
+use Rattle.messages.specs.Lists.{Within, entry, below, find, join-in, act-in, put-first}
 use Rattle.messages.specs.Places.{first-value, value-at}
 use Rattle.messages.specs.declared.entry.Entry.{Entry}
 use Rattle.messages.specs.declared.message.Message.{Message}
@@ -23,6 +23,11 @@ use Rattle.messages.specs.declared.message.Message.{Message}
 pub below-length : {V : Type 0} (k : ℕ) (xs : List (Entry V)) → below k xs ≤ length xs
 below-length k [] = omega arith
 below-length k (x ∷ xs) = let h = below-length k xs in grind (arith, tells)
+
+-- no entry stands below the first key
+pub below-none : {V : Type 0} (k from upto : ℕ) (xs : List (Entry V)) → Within from upto xs → k ≤ from → below k xs ≡ 0
+below-none k from upto [] w h = refl
+below-none k from upto (x ∷ xs) w h = rw (le-ltb (x .key) k (omega (arith, w .0))) refl
 
 -- one step of a scan from the front
 pub below-next : {V : Type 0} (k : ℕ) (xs : List (Entry V)) (i : ℕ) (x : Entry V) → i < length xs → x ≡ getD xs i x

@@ -1,23 +1,20 @@
 -- The messages of a span lie together where keys rise.
 use mathlib.Core.Path.{_≡_, refl, sym, ap, _∙_}
 use mathlib.Core.Logic.{⊎-elim}
-use mathlib.Core.Bool.{Bool, true, false, cond, _&&_}
+use mathlib.Core.Bool.{false}
 use mathlib.Core.List.{List, [], _∷_}
-use Prim.Native.Nat.{ℕ, suc, _+_, _-_, _≤_, _<_, min}
+use Prim.Native.Nat.{ℕ, suc, _-_, _≤_, _<_, min}
 use native.Mathlib.Omega.{arith}
 use lib.Dec.{ltb, leb}
-use lib.ListN.{length, take, drop}
+use lib.ListN.{take, drop}
 use Rattle.std.specs.shelf.Lists.{kept-by}
 use Rattle.std.proofs.shelf.Lists.{take-take, take-all, length-take}
 use Rattle.std.proofs.shelf.Tests.{and-right, lt-ltb, le-ltb, le-leb, lt-leb, cases-lt}
 use Rattle.messages.specs.BatchLaw.{in-span, Batch-is-smallest}
 use Rattle.messages.specs.Lists.{Within, below, most-moving, pending}
+use Rattle.messages.proofs.Places.{below-none}
 use Rattle.messages.specs.declared.entry.Entry.{Entry}
 use Rattle.messages.specs.declared.message.Message.{Message}
-
-below-none : (k from upto : ℕ) (xs : List (Entry Message)) → Within from upto xs → k ≤ from → below k xs ≡ 0
-below-none k from upto [] w h = refl
-below-none k from upto (x ∷ xs) w h = rw (le-ltb (x .key) k (omega (arith, w .0))) refl
 
 none-inside : (low high from upto : ℕ) (xs : List (Entry Message)) → Within from upto xs → high ≤ from → kept-by (in-span low high) xs ≡ []
 none-inside low high from upto [] w h = refl

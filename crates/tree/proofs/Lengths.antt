@@ -10,10 +10,11 @@ use lib.ListN.{length, getD, length-take, length-drop, length-append, length-set
 use Rattle.std.specs.declared.option.Option.{Option}
 use Rattle.std.specs.declared.option.Option.the-variants.{Some, None}
 use Rattle.std.proofs.shelf.Ways.{tells}
-use Rattle.std.proofs.shelf.Tests.{lt-ltb, le-ltb}
+use Rattle.std.proofs.shelf.Tests.{lt-ltb}
 use Rattle.messages.specs.Algebra.{Algebra}
 use Rattle.messages.specs.Lists.{Within, act-in, acts-in, batch, below, join-in, joins, put-first, rest}
 use Rattle.messages.specs.Messages.{effect}
+use Rattle.messages.proofs.Places.{below-length, below-none}
 use Rattle.messages.specs.declared.entry.Entry.{Entry}
 use Rattle.messages.specs.declared.message.Message.{Message}
 use Rattle.tree.proofs.Lists.{size-full}
@@ -47,10 +48,6 @@ pub length-acts : (K : Algebra) (xs : List (Entry ℕ)) (bs : List (Entry Messag
 length-acts K xs [] = omega arith
 length-acts K xs (b ∷ bs) = let h = length-acts K (act-in K (b .key) (b .value) xs) bs in omega (arith, length-act K (b .key) (b .value) xs)
 
-pub below-le : {V : Type 0} (q : ℕ) (xs : List (Entry V)) → below q xs ≤ length xs
-below-le q [] = omega arith
-below-le q (x ∷ xs) = let h = below-le q xs in grind (arith, tells)
-
 pub below-mono : {V : Type 0} (q r : ℕ) (xs : List (Entry V)) → q ≤ r → below q xs ≤ below r xs
 below-mono q r [] h = omega arith
 below-mono q r (x ∷ xs) h = let e = below-mono q r xs h in grind (arith, tells)
@@ -59,16 +56,12 @@ pub below-all : {V : Type 0} (low high : ℕ) (xs : List (Entry V)) → Within l
 below-all low high [] w = refl
 below-all low high (x ∷ xs) w = let e = below-all (suc (x .key)) high xs (w .2) in rw (lt-ltb (x .key) high (w .1)) (ap suc e)
 
-pub below-none : {V : Type 0} (low high : ℕ) (xs : List (Entry V)) → Within low high xs → below low xs ≡ 0
-below-none low high [] w = refl
-below-none low high (x ∷ xs) w = rw (le-ltb (x .key) low (w .0))
-
 -- a full batch, and what stays
 pub length-rest : (q r : ℕ) (xs : List (Entry Message)) → below q xs + 16 ≤ below r xs → length (rest q r xs) + 16 ≡ length xs
-length-rest q r xs h = let e = below-le r xs in simp (length-append, length-take, length-drop) (omega (arith, size-full q r xs h))
+length-rest q r xs h = let e = below-length r xs in simp (length-append, length-take, length-drop) (omega (arith, size-full q r xs h))
 
 pub length-batch : (q r : ℕ) (xs : List (Entry Message)) → below q xs + 16 ≤ below r xs → length (batch q r xs) ≡ 16
-length-batch q r xs h = let e = below-le r xs in simp (length-take, length-drop) (omega (arith, size-full q r xs h))
+length-batch q r xs h = let e = below-length r xs in simp (length-take, length-drop) (omega (arith, size-full q r xs h))
 
 -- ---- the child with most pending
 pub largest-is : (xs : List ℕ) (j : ℕ) → j < length xs → getD xs j 0 ≤ getD xs (largest xs) 0
@@ -111,7 +104,7 @@ crowded a l low high cs ps xs h w n g =
     let s = spread a l low high m cs ps xs h
     (λ j g. omega (arith, largest-is (pending-counts a xs cs) j (omega (arith, length-counts a xs cs)), getD-counts a xs cs (largest (pending-counts a xs cs)) inside)) in
     let p = mul-le-mul-right m n in
-    (inside, omega (arith, below-all low high xs w, below-none low high xs w))
+    (inside, omega (arith, below-all low high xs w, below-none low low high xs w (omega arith)))
   where
     children-any : (a : List Node) (l low high : ℕ) (cs ps : List ℕ) → Children a l low high cs ps → 0 < length cs
     children-any a l low high [] ps h = absurd h

@@ -8,6 +8,7 @@ use lib.ListN.{length, getD, set, length-set, length-append, length-take, length
 use Rattle.std.proofs.shelf.Lists.{map-set, map-append, length-map}
 use Rattle.messages.specs.Algebra.{Algebra}
 use Rattle.messages.specs.Lists.{below, entry}
+use Rattle.messages.proofs.Places.{below-length}
 use Rattle.messages.specs.declared.entry.Entry.{Entry}
 use Rattle.messages.specs.declared.message.Message.{Message}
 use Rattle.tree.proofs.Reached.{Can-move, Child-at, Full, load-of, shape-of, worn-of}
@@ -19,7 +20,7 @@ use Rattle.tree.proofs.Wear.Step.{cut, join, split-inner, split-leaf, move}
 use Rattle.tree.proofs.Keeps.{Inv, inv-step}
 use Rattle.tree.proofs.Frames.{Part, children-part}
 use Rattle.tree.proofs.Move.{inner-sound}
-use Rattle.tree.proofs.Lengths.{length-join, length-joins, length-acts, length-rest, length-batch, below-le}
+use Rattle.tree.proofs.Lengths.{length-join, length-joins, length-acts, length-rest, length-batch}
 
 pub at-shape : (a : List Node) (b : ℕ) → getD (map shape-of a) b (shape 0 0 0) ≡ shape-of (node a b)
 at-shape [] b = refl
@@ -104,7 +105,7 @@ module _ (K : Algebra) (a : List Node) (t : Tree a) (h : List (Entry Message)) (
       let x = without-batch (node a c .frame .low) (node a c .frame .high) (node a p) in
       let y = absorb K (moving-batch a p c) (node a c) in
       let pt = part-of p j c l (m .p-in) (m .j-in) (m .is) pl in
-      let bl = below-le (node a c .frame .high) (node a p .messages) in
+      let bl = below-length (node a c .frame .high) (node a p .messages) in
       let lp = load-inner (node a p .frame .level) (node a p) (m .inner) in
       let lx = load-inner (node a p .frame .level) x (m .inner) in
       let fit : below (node a c .frame .low) (node a p .messages) + 16 ≤ length (node a p .messages) = omega (arith, m .pending) in
@@ -161,7 +162,7 @@ module _ (K : Algebra) (a : List Node) (t : Tree a) (h : List (Entry Message)) (
           let z = upper-inner 3 (node a c) in
           let q = getD (node a c .frame .pivots) 3 0 in
           let lc = load-inner (node a c .frame .level) (node a c) (g .0) in
-          let l₁ : load-of (node a c .frame .level) y ≡ below q (node a c .messages) = load-inner (node a c .frame .level) y (g .0) ∙ simp length-take (omega (arith, below-le q (node a c .messages))) in
+          let l₁ : load-of (node a c .frame .level) y ≡ below q (node a c .messages) = load-inner (node a c .frame .level) y (g .0) ∙ simp length-take (omega (arith, below-length q (node a c .messages))) in
           let l₂ : load-of (node a c .frame .level) z ≡ length (node a c .messages) - below q (node a c .messages) = load-inner (node a c .frame .level) z (g .0) ∙ simp length-drop in
           let k₁ : length (y .frame .children) ≡ 4 = simp length-take (omega (arith, g .1)) in
           let k₂ : length (z .frame .children) ≡ 4 = simp length-drop (omega (arith, g .1)) in
@@ -170,7 +171,7 @@ module _ (K : Algebra) (a : List Node) (t : Tree a) (h : List (Entry Message)) (
           real-split p j c l q y z u pl refl refl
           (subst (λ k. Inv (after-split (worn-of a h n) p c m₁ k m₂ (length (z .frame .children)))) (sym k₁)
           (subst (λ k. Inv (after-split (worn-of a h n) p c m₁ 4 m₂ k)) (sym k₂)
-          (inv-step _ _ (split-inner p c m₁ m₂ pr (omega (arith, level-at c, g .0)) (children-at c ∙ g .1) (omega (arith, load-at c, below-le q (node a c .messages)))) i)))
+          (inv-step _ _ (split-inner p c m₁ m₂ pr (omega (arith, level-at c, g .0)) (children-at c ∙ g .1) (omega (arith, load-at c, below-length q (node a c .messages)))) i)))
 
   -- ---- the cut
   pub real-cut : length (node a 0 .frame .children) ≡ 8 → Inv (worn-of (cut-root a) h n)
@@ -184,7 +185,7 @@ module _ (K : Algebra) (a : List Node) (t : Tree a) (h : List (Entry Message)) (
       let lc = load-inner (r .frame .level) r (t .root-inner) in
       let m₁ = load-of (r .frame .level) y in
       let m₂ = load-of (r .frame .level) z in
-      let l₁ : m₁ ≡ below q (r .messages) = load-inner (r .frame .level) y (t .root-inner) ∙ simp length-take (omega (arith, below-le q (r .messages))) in
+      let l₁ : m₁ ≡ below q (r .messages) = load-inner (r .frame .level) y (t .root-inner) ∙ simp length-take (omega (arith, below-length q (r .messages))) in
       let l₂ : m₂ ≡ length (r .messages) - below q (r .messages) = load-inner (r .frame .level) z (t .root-inner) ∙ simp length-drop in
       let k₁ : length (y .frame .children) ≡ 4 = simp length-take (omega arith) in
       let k₂ : length (z .frame .children) ≡ 4 = simp length-drop (omega arith) in
@@ -195,4 +196,4 @@ module _ (K : Algebra) (a : List Node) (t : Tree a) (h : List (Entry Message)) (
       subst Inv (same-state (after-cut s m₁ m₂) (worn-of (cut-root a) h n)
       (cut-eq (map shape-of a) _ _ _ _ _ _ ex ey ez ∙ sym (map-append shape-of (set a 0 x) (y ∷ z ∷ []) ∙ ap (λ w. w ++ shape-of y ∷ shape-of z ∷ []) (map-set shape-of a 0 x)))
       refl refl (omega (arith, two)))
-      (inv-step _ _ (cut m₁ m₂ (children-at 0 ∙ e8) (omega (arith, load-at 0, below-le q (r .messages)))) i)
+      (inv-step _ _ (cut m₁ m₂ (children-at 0 ∙ e8) (omega (arith, load-at 0, below-length q (r .messages)))) i)

@@ -14,6 +14,7 @@ use Rattle.tree.proofs.Split as sp
 use Rattle.tree.proofs.Cut as ct
 use Rattle.messages.specs.Algebra.{Algebra}
 use Rattle.messages.specs.Lists.{below, entry, pending}
+use Rattle.messages.proofs.Places.{below-length}
 use Rattle.messages.specs.declared.entry.Entry.{Entry}
 use Rattle.messages.specs.declared.message.Message.{Message}
 use Rattle.tree.proofs.Reached.{Can-move, Can-split, Child-at, Full, Reached}
@@ -23,12 +24,20 @@ use Rattle.tree.specs.Shape.{All-sized, Sized, Tree}
 use Rattle.tree.specs.Update.{after-step, busiest-child, busiest-place, full-at, is-full, pending-for, raised, run-steps, step-writes, target, update, upper-goes-on, writes, prepared}
 use Rattle.tree.proofs.Reached.Reached.{join as r-join, move as r-move, part as r-part, rise as r-rise}
 use Rattle.tree.proofs.Frames.{Part, children-part}
-use Rattle.tree.proofs.Lengths.{length-join, length-joins, length-acts, length-rest, length-batch, below-le, length-raised, crowded, below-mono}
+use Rattle.tree.proofs.Lengths.{length-join, length-joins, length-acts, length-rest, length-batch, length-raised, crowded, below-mono}
 use Rattle.tree.proofs.Invariants.{level-up, splits, root-halved, tree}
 
 -- all nodes but the current one have their sizes
 abbrev pub Rest : List Node → ℕ → Type 0
 Rest a p = (b : ℕ) → b < length a → b ≢ p → Sized 256 8 b (node a b)
+
+-- the same node under other bounds
+pub sized-as : (m c m′ c′ b : ℕ) (x : Node) → Sized m c b x → length (x .messages) ≤ m′ → length (x .frame .children) ≤ c′ → Sized m′ c′ b x
+sized-as m c m′ c′ b x s ms cs = record { messages-le = ms; records-le = s .records-le; children-le = cs; leaf = s .leaf; bare = s .bare; inner = s .inner }
+
+-- a node of at most 7 children has at most 8
+pub one-more : (b : ℕ) (x : Node) → Sized 256 7 b x → Sized 256 8 b x
+one-more b x s = sized-as 256 7 256 8 b x s (s .messages-le) (omega (arith, s .children-le))
 
 -- a node that takes 16 messages
 pub absorbed : (K : Algebra) (bs : List (Entry Message)) (b l : ℕ) (x : Node) → x .frame .level ≡ l → length bs ≡ 16 → Sized 256 7 b x → (l ≡ 0 → length (x .records) ≤ 240)
@@ -57,7 +66,7 @@ module _ (K : Algebra) (a : List Node) (t : Tree a) (p j c l : ℕ) (m : Can-mov
   pub moved-rest : Rest (moved K a p c) c
   moved-rest b h n = ⊎-elim
       (λ e. subst (λ x. Sized 256 8 x (node (moved K a p c) x)) (sym e) (rw (mv.at-p K a t p j c l m pl) (record {
-        messages-le = omega (arith, sp .messages-le, length-rest (node a c .frame .low) (node a c .frame .high) (node a p .messages) (omega (arith, m .pending, below-le (node a c .frame .high) (node a p .messages))));
+        messages-le = omega (arith, sp .messages-le, length-rest (node a c .frame .low) (node a c .frame .high) (node a p .messages) (omega (arith, m .pending, below-length (node a c .frame .high) (node a p .messages))));
         records-le = sp .records-le;
         children-le = sp .children-le;
         leaf = sp .leaf;
@@ -69,7 +78,7 @@ module _ (K : Algebra) (a : List Node) (t : Tree a) (p j c l : ℕ) (m : Can-mov
 
   pub moved-here : Sized 272 7 c (node (moved K a p c) c)
   moved-here = rw (mv.at-c K a t p j c l m pl) (absorbed K (moving-batch a p c) c l (node a c) (mv.part K a t p j c l m pl .level-is)
-      (length-batch (node a c .frame .low) (node a c .frame .high) (node a p .messages) (omega (arith, m .pending, below-le (node a c .frame .high) (node a p .messages)))) sc room)
+      (length-batch (node a c .frame .low) (node a c .frame .high) (node a p .messages) (omega (arith, m .pending, below-length (node a c .frame .high) (node a p .messages)))) sc room)
 
   pub moved-level : node (moved K a p c) c .frame .level ≡ l
   moved-level = ap (λ (x : Node). x .frame .level) (mv.at-c K a t p j c l m pl) ∙ mv.part K a t p j c l m pl .level-is
@@ -156,17 +165,13 @@ module _ (a : List Node) (t : Tree a) (p j c l : ℕ) (u : Child-at a p j c) (pl
   pub new-n : node (split-child a p j c) (length a) ≡ Z
   new-n = sp.at-new a t p j c Q l Y Z S pl
 
-  -- a node of at most 7 children has room for one more
-  pub wider : (b : ℕ) (x : Node) → Sized 256 7 b x → Sized 256 8 b x
-  wider b x s = record { messages-le = s .messages-le; records-le = s .records-le; children-le = omega (arith, s .children-le); leaf = s .leaf; bare = s .bare; inner = s .inner }
-
   pub split-rest : Rest (split-child a p j c) p
   split-rest b h n = ⊎-elim
-      (λ e. subst (λ x. Sized 256 8 x (node (split-child a p j c) x)) (sym e) (rw new-c (wider c Y (halves .0 .0))))
+      (λ e. subst (λ x. Sized 256 8 x (node (split-child a p j c) x)) (sym e) (rw new-c (one-more c Y (halves .0 .0))))
       (λ e. ⊎-elim
       (λ g. rw (sp.at-else a t p j c Q l Y Z S pl b g e n) (others b g n))
       (λ g. let w : b ≡ length a = omega (arith, sp.len a t p j c Q l Y Z S pl) in
-      subst (λ x. Sized 256 8 x (node (split-child a p j c) x)) (sym w) (rw new-n (wider (length a) Z (halves .0 .1))))
+      subst (λ x. Sized 256 8 x (node (split-child a p j c) x)) (sym w) (rw new-n (one-more (length a) Z (halves .0 .1))))
       (cases-lt b (length a)))
       (cases-eq b c)
 
@@ -221,9 +226,9 @@ full-true (suc l) x e k f = inr (omega arith, eqb-true _ _ f)
 
 pub full-false : (l b : ℕ) (x : Node) → x .frame .level ≡ l → Sized 256 8 b x → full-at l x ≡ false → Sized 256 7 b x × (l ≡ 0 → length (x .records) ≤ 240)
 full-false zero b x e s f =
-    (record { messages-le = s .messages-le; records-le = s .records-le; children-le = omega (arith, s .leaf e); leaf = s .leaf; bare = s .bare; inner = s .inner }, λ _. ltb-false _ _ f)
+    (sized-as 256 8 256 7 b x s (s .messages-le) (omega (arith, s .leaf e)), λ _. ltb-false _ _ f)
 full-false (suc l) b x e s f =
-    (record { messages-le = s .messages-le; records-le = s .records-le; children-le = omega (arith, s .children-le, eqb-false _ _ f); leaf = s .leaf; bare = s .bare; inner = s .inner }, λ z. absurd (omega arith))
+    (sized-as 256 8 256 7 b x s (s .messages-le) (omega (arith, s .children-le, eqb-false _ _ f)), λ z. absurd (omega arith))
 
 -- what holds when p is the current node, of level l
 pub record Going (K : Algebra) (h : List (Entry Message)) (l : ℕ) (a : List Node) (p : ℕ) : Type 0 where
@@ -257,7 +262,7 @@ module _ (K : Algebra) (h : List (Entry Message)) (l : ℕ) (a : List Node) (p :
   sized-child = g .others (busiest-child a p) (pt .inside) child≢p
 
   pub roomy : Sized 272 8 p (node a p)
-  roomy = let s = g .here in record { messages-le = s .messages-le; records-le = s .records-le; children-le = omega (arith, s .children-le); leaf = s .leaf; bare = s .bare; inner = s .inner }
+  roomy = sized-as 272 7 272 8 p (node a p) (g .here) (g .here .messages-le) (omega (arith, g .here .children-le))
 
   pub plain : is-full (node a (busiest-child a p)) ≡ false → Going K h l (moved K a p (busiest-child a p)) (busiest-child a p)
   plain e =
@@ -368,7 +373,7 @@ settled K h l a p g le =
       reached = g .reached;
       sized = λ b i. ⊎-elim
           (λ e. subst (λ x. Sized 256 8 x (node a x)) (sym e)
-          (let s = g .here in record { messages-le = le; records-le = s .records-le; children-le = omega (arith, s .children-le); leaf = s .leaf; bare = s .bare; inner = s .inner }))
+          (sized-as 272 7 256 8 p (node a p) (g .here) le (omega (arith, g .here .children-le))))
           (λ e. g .others b i e)
           (cases-eq b p);
       tally = omega arith;
@@ -404,8 +409,6 @@ cut-sized a t s e8 b h =
     let (l, e) = level-up (node a 0 .frame .level) (t .root-inner) in
     let H = root-halved a t e8 in
     let hs = halved-sized (suc l) 0 (length a) (suc (length a)) (node a 0) e (inr (t .root-inner, e8)) (s 0 (t .has-root)) in
-    let up : (b : ℕ) (x : Node) → Sized 256 7 b x → Sized 256 8 b x
-    = λ b x s. record { messages-le = s .messages-le; records-le = s .records-le; children-le = omega (arith, s .children-le); leaf = s .leaf; bare = s .bare; inner = s .inner } in
     ⊎-elim
     (λ z. subst (λ x. Sized 256 8 x (node (cut-root a) x)) (sym z) (rw (ct.at-root a t _ _ _ H) (record {
       messages-le = omega arith;
@@ -418,9 +421,9 @@ cut-sized a t s e8 b h =
     (λ (z : b ≢ 0). ⊎-elim
     (λ (g : b < length a). rw (ct.at-old a t _ _ _ H b g (omega arith)) (s b g))
     (λ (g : length a ≤ b). ⊎-elim
-    (λ w. subst (λ x. Sized 256 8 x (node (cut-root a) x)) (sym w) (rw (ct.at-y a t _ _ _ H) (up (length a) _ (hs .0 .0))))
+    (λ w. subst (λ x. Sized 256 8 x (node (cut-root a) x)) (sym w) (rw (ct.at-y a t _ _ _ H) (one-more (length a) _ (hs .0 .0))))
     (λ (w : b ≢ length a). let w′ : b ≡ suc (length a) = omega (arith, ct.len a t _ _ _ H) in
-    subst (λ x. Sized 256 8 x (node (cut-root a) x)) (sym w′) (rw (ct.at-z a t _ _ _ H) (up (suc (length a)) _ (hs .0 .1))))
+    subst (λ x. Sized 256 8 x (node (cut-root a) x)) (sym w′) (rw (ct.at-z a t _ _ _ H) (one-more (suc (length a)) _ (hs .0 .1))))
     (cases-eq b (length a)))
     (cases-lt b (length a)))
     (cases-eq b 0)
