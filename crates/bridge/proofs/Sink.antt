@@ -6,9 +6,9 @@ use mathlib.Core.List.{List, [], _∷_}
 use Prim.Native.Nat.{ℕ, zero, suc, _+_, _-_, _%_, _^_, _≤_, _<_}
 use native.Mathlib.Omega.{arith}
 use lib.Dec.{ltb}
-use lib.ListN.{length, set, length-set}
+use lib.ListN.{length, set, length-set, length-append}
 use lib.Seq.{getD-set-other}
-use Rattle.std.proofs.shelf.Lists.{getD-append-left}
+use Rattle.std.proofs.shelf.Lists.{getD-append-left, getD-set-same}
 use Rattle.std.proofs.shelf.Tests.{cond-both, ltb-true, ltb-false}
 use Rattle.blocks.specs.Media.{most-blocks}
 use Rattle.messages.specs.Algebra.{Algebra}
@@ -18,9 +18,9 @@ use Rattle.plan.specs.Codes.{Code}
 use Rattle.plan.specs.Images.{Image, Try, bind, save, image-written}
 use Rattle.plan.specs.Images.Try.{done}
 use Rattle.plan.specs.Steps.{Step, Sunk, Settled, finish, step, sink, settle}
-use Rattle.tree.specs.Nodes.{Node, no-node, node}
+use Rattle.tree.specs.Nodes.{Node, no-node, node, height}
 use Rattle.tree.specs.Operations.{lower-half, split-child, split-key, upper-half, with-new-child}
-use Rattle.tree.specs.Update.{after-step, busiest-child, busiest-place, is-full, run-steps, step-writes, steps-made, target, upper-goes-on}
+use Rattle.tree.specs.Update.{after-step, busiest-child, busiest-place, is-full, prepared, run-steps, step-writes, steps-made, target, upper-goes-on}
 use Rattle.tree.proofs.Update as up
 use Rattle.tree.proofs.Update.{Going}
 use Rattle.bridge.specs.Stored.{most-levels, Words-fit, Round-trip, Stored}
@@ -37,8 +37,9 @@ pub record Sank (C : Code) (d : Image) (u r w n : ℕ) (a : List Node) (x : Node
   pub stored : Stored C (s .image) a
   pub work : Work d (s .image) r w n
 
--- the same from the root on
-pub record Came (C : Code) (d : Image) (u r w n : ℕ) (a : List Node) (s : Settled) : Type 0 where
+-- the same from the root on, in a tree of height l
+pub record Came (C : Code) (d : Image) (u r w n l : ℕ) (a : List Node) (s : Settled) : Type 0 where
+  pub height-is : height a ≡ l
   pub next-is : s .next ≡ length a
   pub writes-are : s .writes ≡ u % 2 ^ 64
   pub root-is : s .root ≡ node a 0
@@ -82,6 +83,21 @@ module _ (K : Algebra) (h : List (Entry Message)) (l : ℕ) (a : List Node) (p :
       go true true = omega (arith, g .inside)
       go true false = up.pt K h l a p g big .not-root
       go false y = up.pt K h l a p g big .not-root
+
+  -- a step keeps the level of the node that it starts from
+  root-level : p < target a p → node (after-step K a p) p .frame .level ≡ suc l
+  root-level above =
+      let c = busiest-child a p in
+      ap (λ (x : Node). x .frame .level) (getD-set-other _ (target a p) p _ no-node (λ e. omega arith) ∙ getD-set-same (prepared a p) p _ no-node (go-length (is-full (node a c))))
+      ∙ go (is-full (node a c)) refl
+    where
+      go-length : (b : Bool) → p < length (cond b (split-child a p (busiest-place a p) (busiest-child a p)) a)
+      go-length true = simp (length-append, length-set) (omega (arith, g .inside))
+      go-length false = g .inside
+
+      go : (b : Bool) → is-full (node a (busiest-child a p)) ≡ b → node (cond b (split-child a p (busiest-place a p) (busiest-child a p)) a) p .frame .level ≡ suc l
+      go true f = up.lA K h l a p g big f
+      go false f = g .level-is
 
   root-kept : 0 < p → node (after-step K a p) 0 ≡ node a 0
   root-kept pos =
@@ -170,7 +186,7 @@ module _ (C : Code) (T : Round-trip C) (d : Image) (n : ℕ) (inside : n ≤ d .
   pub settle-ends : (l : ℕ) → 0 < l → l ≤ most-levels → (a : List Node) (g : Going K h l a 0) → node a 0 .frame .high ≤ 2 ^ 32 → length (run-steps K l a 0) ≤ n
       → (e : Image) (u r w : ℕ) → u < 2 ^ 64 → Stored C e a → Work d e r w n
       → Ends (All-sound d) (settle C e (length a) u (node a 0))
-      (Came C d (u + step-writes K l a 0 0) (r + steps-made K l a 0) (w + step-writes K l a 0 0) n (run-steps K l a 0))
+      (Came C d (u + step-writes K l a 0 0) (r + steps-made K l a 0) (w + step-writes K l a 0 0) n l (run-steps K l a 0))
   settle-ends zero pos lev a g span room e u r w small st k = absurd (omega arith)
   settle-ends (suc l) pos lev a g span room e u r w small st k = go (ltb 256 (length (node a 0 .messages))) refl room
     where
@@ -179,7 +195,7 @@ module _ (C : Code) (T : Round-trip C) (d : Image) (n : ℕ) (inside : n ≤ d .
           (Came C d (u + cond b (cond (is-full (node a (busiest-child a 0))) 1 0 + 0 + step-writes K l (after-step K a 0) (target a 0) 1) 0)
           (r + cond b (suc (steps-made K l (after-step K a 0) (target a 0))) 0)
           (w + cond b (cond (is-full (node a (busiest-child a 0))) 1 0 + 0 + step-writes K l (after-step K a 0) (target a 0) 1) 0)
-          n (cond b (run-steps K l (after-step K a 0) (target a 0)) a))
+          n (suc l) (cond b (run-steps K l (after-step K a 0) (target a 0)) a))
       go true f room =
           let big = ltb-true 256 (length (node a 0 .messages)) f in
           let full = is-full (node a (busiest-child a 0)) in
@@ -199,6 +215,7 @@ module _ (C : Code) (T : Round-trip C) (d : Image) (n : ℕ) (inside : n ≤ d .
           let there = subst (λ t. Ends (All-sound d) t (Sank C d (s .writes + x) (r + 1 + y) (w + v + x) n (run-steps K l b c) (node b 0)))
           (λ i. sink C (sym level i) (s .image) (sym (q .next-is) i) (s .writes) (sym (q .block-is) i) (sym (q .child-is) i)) rec in
           bind-ends (All-sound d) (sink C (node a 0 .frame .level - 1) (s .image) (s .next) (s .writes) (s .block) (s .child)) (with-root s) _ _ there (λ z o. record {
+            height-is = ap (λ (x : Node). x .frame .level) (o .root-is) ∙ root-level K h l a 0 g big (target-not-root K h l a 0 g big);
             next-is = o .next-is;
             writes-are = o .writes-are ∙ ap (λ i. (i + x) % 2 ^ 64) (q .writes-are) ∙ added-root full u x;
             root-is = q .parent-is ∙ sym (o .root-is);
@@ -206,6 +223,7 @@ module _ (C : Code) (T : Round-trip C) (d : Image) (n : ℕ) (inside : n ≤ d .
             work = same-work d (z .image) _ _ _ _ n (omega arith) (omega arith) (o .work);
           }))
       go false f room = record {
+        height-is = g .level-is;
         next-is = refl;
         writes-are = omega arith;
         root-is = refl;

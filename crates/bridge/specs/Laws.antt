@@ -14,17 +14,27 @@ use Rattle.plan.specs.Queries.{Answered, seek}
 use Rattle.plan.specs.Steps.{Settled, updated}
 use Rattle.tree.specs.Laws.{Keys}
 use Rattle.tree.specs.Nodes.{Node, node, height, next-free}
+use Rattle.tree.specs.Operations.{fresh}
 use Rattle.tree.specs.Query.{query, page}
 use Rattle.tree.specs.Update.{raised, update, writes, batches, grown}
 use Rattle.bridge.specs.Stored.{most-levels, Word-fits, Round-trip, Stored}
 use Rattle.bridge.specs.Work.{All-sound, Work}
 
--- ---- an update
--- an update of a tree has room on a device: blocks for a full way down, and levels for a new root
-pub record Room (d : Image) (a : List Node) : Type 0 where
-  pub blocks : next-free a + (height a + 1) ≤ d .size
+-- a tree within the limits of a device and of levels
+pub record On-device (d : Image) (a : List Node) : Type 0 where
+  pub blocks : next-free a ≤ d .size
   pub size-fits : d .size ≤ most-blocks
-  pub levels : height (raised a) ≤ most-levels
+  pub levels : height a ≤ most-levels
+
+-- ---- a fresh tree
+abbrev pub Fresh-bridge : Type 0
+Fresh-bridge = (C : Code) (d : Image) → d .bytes 1 ≡ C .encode (node fresh 1) → Stored C d (grown (C .algebra) [])
+
+-- ---- an update
+-- an update of a tree has room on a device: a block for each level, the root's included, and a level for a root that is cut
+pub record Room (d : Image) (a : List Node) : Type 0 where
+  pub free-blocks : next-free a + (height a + 1) ≤ d .size
+  pub free-level : height (raised a) ≤ most-levels
 
 -- what comes of an update of the tree a on the image d, with w tree writes before: the updated tree, one read for each batch that
 -- moves, and just the tree's writes
@@ -33,6 +43,7 @@ pub record Updated (C : Code) (d : Image) (w : ℕ) (a : List Node) (k : ℕ) (m
   pub next-is : s .next ≡ next-free (update (C .algebra) k m a)
   pub tree-writes-rise : s .writes ≡ (w + writes (C .algebra) k m a) % 2 ^ 64
   pub stored : Stored C (s .image) (update (C .algebra) k m a)
+  pub on-device : On-device (s .image) (update (C .algebra) k m a)
   pub work : Work d (s .image) (batches (C .algebra) k m a) (writes (C .algebra) k m a) (next-free (update (C .algebra) k m a))
 
 pub record Update-carries-over (C : Code) (d : Image) (w : ℕ) (a : List Node) (k : ℕ) (m : Message) : Type 0 where
@@ -41,7 +52,7 @@ pub record Update-carries-over (C : Code) (d : Image) (w : ℕ) (a : List Node) 
 
 abbrev pub Update-bridge : Type 0
 Update-bridge = (C : Code) → Round-trip C → (h : List (Entry Message)) → Keys h → let a = grown (C .algebra) h in
-    (d : Image) (w : ℕ) → Stored C d a → w < 2 ^ 64 → Room d a → (k : ℕ) (m : Message) → k < 2 ^ 32 → Word-fits m → Update-carries-over C d w a k m
+    (d : Image) (w : ℕ) → Stored C d a → On-device d a → w < 2 ^ 64 → Room d a → (k : ℕ) (m : Message) → k < 2 ^ 32 → Word-fits m → Update-carries-over C d w a k m
 
 -- ---- a query
 -- what comes of a query of the tree a on the image d: what the tree holds for the key, and just the blocks read for it
@@ -53,12 +64,6 @@ pub record Found (C : Code) (d : Image) (a : List Node) (k : ℕ) (s : Answered)
 pub record Query-carries-over (C : Code) (d : Image) (a : List Node) (k : ℕ) : Type 0 where
   pub accepted : (s : Answered) → seek C (height a) d (next-free a) (node a 0) k None 0 ≡ done s → Found C d a k s
   pub never-stops : All-sound d → (s : Answered) × (seek C (height a) d (next-free a) (node a 0) k None 0 ≡ done s)
-
--- the tree stands on a device
-pub record On-device (d : Image) (a : List Node) : Type 0 where
-  pub blocks : next-free a ≤ d .size
-  pub size-fits : d .size ≤ most-blocks
-  pub levels : height a ≤ most-levels
 
 abbrev pub Query-bridge : Type 0
 Query-bridge = (C : Code) → Round-trip C → (h : List (Entry Message)) → Keys h → let a = grown (C .algebra) h in
