@@ -56,13 +56,10 @@ length-steps K (suc l) a p =
     (λ _. omega arith)
 
 -- ---- the counts
-added : (b : Bool) (u x : ℕ) → ((cond b ((u + 1) % 2 ^ 64) u + 1) % 2 ^ 64 + x) % 2 ^ 64 ≡ (u + (cond b 1 0 + 1 + x)) % 2 ^ 64
-added true u x = omega arith
-added false u x = omega arith
-
-added-root : (b : Bool) (u x : ℕ) → (cond b ((u + 1) % 2 ^ 64) u + x) % 2 ^ 64 ≡ (u + (cond b 1 0 + 0 + x)) % 2 ^ 64
-added-root true u x = omega arith
-added-root false u x = omega arith
+-- a split counts one write, and the current node `own`
+added : (b : Bool) (u own x : ℕ) → (cond b ((u + 1) % 2 ^ 64) u + own + x) % 2 ^ 64 ≡ (u + (cond b 1 0 + own + x)) % 2 ^ 64
+added true u own x = omega arith
+added false u own x = omega arith
 
 -- ---- what goes on after a step from the block p, and from the root
 abbrev onward : Code → ℕ → ℕ → Step → Try Sunk
@@ -175,7 +172,7 @@ module _ (C : Code) (T : Round-trip C) (d : Image) (n : ℕ) (inside : n ≤ d .
           (λ i. sink C l e′ (sym (q .next-is) i) ((s .writes + 1) % 2 ^ 64) (sym (q .block-is) i) (sym (q .child-is) i)) rec in
           ends-with (All-sound d) (sink C l e′ (s .next) ((s .writes + 1) % 2 ^ 64) (s .block) (s .child)) _ _ there (λ z o. record {
             next-is = o .next-is;
-            writes-are = o .writes-are ∙ ap (λ i. ((i + 1) % 2 ^ 64 + x) % 2 ^ 64) (q .writes-are) ∙ added full u x;
+            writes-are = omega (arith, o .writes-are, q .writes-are, added full u 1 x);
             root-is = o .root-is ∙ root-kept K h l a p g big pos;
             stored = o .stored;
             work = same-work d (z .image) _ _ _ _ n (omega arith) (omega arith) (o .work);
@@ -217,7 +214,7 @@ module _ (C : Code) (T : Round-trip C) (d : Image) (n : ℕ) (inside : n ≤ d .
           bind-ends (All-sound d) (sink C (node a 0 .frame .level - 1) (s .image) (s .next) (s .writes) (s .block) (s .child)) (with-root s) _ _ there (λ z o. record {
             height-is = ap (λ (x : Node). x .frame .level) (o .root-is) ∙ root-level K h l a 0 g big (target-not-root K h l a 0 g big);
             next-is = o .next-is;
-            writes-are = o .writes-are ∙ ap (λ i. (i + x) % 2 ^ 64) (q .writes-are) ∙ added-root full u x;
+            writes-are = omega (arith, o .writes-are, q .writes-are, added full u 0 x);
             root-is = q .parent-is ∙ sym (o .root-is);
             stored = o .stored;
             work = same-work d (z .image) _ _ _ _ n (omega arith) (omega arith) (o .work);

@@ -152,7 +152,7 @@ pub length-path : (l : ℕ) (a : List Node) (b k : ℕ) → length (path l a b k
 length-path zero a b k = refl
 length-path (suc l) a b k = ap suc (length-path l a (child (node a b .frame) k) k)
 
-length-slice : {V : Type 0} (q r : ℕ) (xs : List (Entry V)) → length (slice q r xs) ≤ length xs
+pub length-slice : {V : Type 0} (q r : ℕ) (xs : List (Entry V)) → length (slice q r xs) ≤ length xs
 length-slice q r xs = simp (length-take, length-drop) (omega arith)
 
 length-leaf-page : (K : Algebra) (a : List Node) → Tree a → All-sized a → (l b k low high : ℕ) → b < length a → node a b .frame .level ≡ l → In k (node a b .frame)
