@@ -1,9 +1,9 @@
 -- A node's children by its pivots are the children in the tree: which has most pending, and what is read of one.
-use mathlib.Core.Path.{_≡_, refl, sym, ap, _∙_}
-use mathlib.Core.List.{List, _∷_}
+use mathlib.Core.Path.{_≡_, sym, ap, _∙_}
+use mathlib.Core.List.{List}
 use Prim.Native.Nat.{ℕ, suc, _-_, _<_}
 use native.Mathlib.Omega.{arith}
-use lib.ListN.{length, getD}
+use lib.ListN.{length}
 use Rattle.std.proofs.shelf.Counted.{fill-by-all}
 use Rattle.blocks.specs.declared.state.State.the-variants.{Sound}
 use Rattle.messages.specs.Lists.{pending}

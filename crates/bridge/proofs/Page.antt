@@ -1,14 +1,13 @@
 -- A page on blocks that hold a tree is the tree's page.
 use mathlib.Core.Path.{_≡_, refl, sym, ap, subst, _∙_}
-use mathlib.Core.Bool.{true, false, cond}
+use mathlib.Core.Bool.{cond}
 use mathlib.Core.List.{List, [], _∷_}
-use Prim.Native.Nat.{ℕ, zero, suc, _+_, _^_, _≤_, _<_, min}
+use Prim.Native.Nat.{ℕ, zero, suc, _+_, _^_, _≤_, _<_}
 use native.Mathlib.Omega.{arith}
 use mathlib.Core.Logic.{⊎-elim}
 use lib.Dec.{eqb, ltb}
 use lib.ListN.{length, take}
 use Rattle.std.proofs.shelf.Tests.{cases-order, cond-true, cond-false, lt-ltb, le-ltb, eq-eqb}
-use Rattle.std.specs.declared.option.Option.{Option}
 use Rattle.std.specs.declared.option.Option.the-variants.{Some, None}
 use Rattle.blocks.specs.Media.{most-blocks}
 use Rattle.messages.specs.Algebra.{Algebra}
@@ -18,7 +17,6 @@ use Rattle.messages.specs.declared.message.Message.{Message}
 use Rattle.plan.specs.Codes.{Code}
 use Rattle.plan.specs.Images.{Image, image-read}
 use Rattle.plan.specs.Pages.{Paged, gathered, page-end, page-from}
-use Rattle.tree.specs.Laws.{Keys}
 use Rattle.tree.specs.Lookup.{acts, look, lookup}
 use Rattle.tree.specs.Nodes.{Node, node, child, height}
 use Rattle.tree.specs.Query.{leaf-of, page, slice}
@@ -31,7 +29,7 @@ use Rattle.tree.proofs.Move.{inner-sound, leaf-sound, took}
 use Rattle.tree.proofs.Plain.{Plain, all-plain}
 use Rattle.tree.proofs.Query.{acts-slice, length-path, within-slice}
 use Rattle.tree.proofs.Total.{find-slice, one-page, within-min}
-use Rattle.bridge.specs.Laws.{On-device, Page-found, Page-bridge}
+use Rattle.bridge.specs.Laws.{Page-found, Page-bridge}
 use Rattle.bridge.specs.Stored.{most-levels, Round-trip, Stored}
 use Rattle.bridge.specs.Work.{All-sound, Work}
 use Rattle.bridge.proofs.Descent.{taking-child, taking-child-then}

@@ -9,13 +9,11 @@ use Rattle.std.specs.declared.option.Option.the-variants.{Some, None}
 use Rattle.blocks.specs.Media.{most-blocks}
 use Rattle.messages.specs.Algebra.{Algebra}
 use Rattle.messages.specs.Lists.{find}
-use Rattle.messages.specs.declared.entry.Entry.{Entry}
 use Rattle.messages.specs.declared.message.Message.{Message}
 use Rattle.messages.specs.declared.message.Message.the-variants.{Put, Remove, Add}
 use Rattle.plan.specs.Codes.{Code}
 use Rattle.plan.specs.Images.{Image, Try, image-read}
 use Rattle.plan.specs.Queries.{Answered, by-verdict, judged, seek}
-use Rattle.tree.specs.Laws.{Keys}
 use Rattle.tree.specs.Nodes.{Node, node, child, height}
 use Rattle.tree.specs.Query.{Answer, settle, ask, query}
 use Rattle.tree.specs.Shape.{All-sized, Tree}
@@ -23,7 +21,7 @@ use Rattle.tree.specs.Update.{grown}
 use Rattle.tree.proofs.Grown.{held}
 use Rattle.tree.proofs.Invariants.{tree}
 use Rattle.tree.proofs.Plain.{Plain, all-plain}
-use Rattle.bridge.specs.Laws.{Found, On-device, Query-bridge}
+use Rattle.bridge.specs.Laws.{Found, Query-bridge}
 use Rattle.bridge.specs.Stored.{most-levels, Round-trip, Stored}
 use Rattle.bridge.specs.Work.{All-sound, Work}
 use Rattle.bridge.proofs.Descent.{taking-child, taking-child-then}

@@ -1,6 +1,5 @@
 -- All steps on blocks that hold a tree are the steps of the tree.
 use mathlib.Core.Path.{_≡_, refl, sym, ap, subst, _∙_}
-use mathlib.Core.Logic.{_≢_}
 use mathlib.Core.Bool.{Bool, true, false, cond}
 use mathlib.Core.List.{List, [], _∷_}
 use Prim.Native.Nat.{ℕ, zero, suc, _+_, _-_, _%_, _^_, _≤_, _<_}
@@ -9,7 +8,7 @@ use lib.Dec.{ltb}
 use lib.ListN.{length, set, length-set, length-append}
 use lib.Seq.{getD-set-other}
 use Rattle.std.proofs.shelf.Lists.{getD-append-left, getD-set-same}
-use Rattle.std.proofs.shelf.Tests.{cond-both, ltb-true, ltb-false}
+use Rattle.std.proofs.shelf.Tests.{cond-both, ltb-true}
 use Rattle.blocks.specs.Media.{most-blocks}
 use Rattle.messages.specs.Algebra.{Algebra}
 use Rattle.messages.specs.declared.entry.Entry.{Entry}
@@ -23,10 +22,10 @@ use Rattle.tree.specs.Operations.{lower-half, split-child, split-key, upper-hal
 use Rattle.tree.specs.Update.{after-step, busiest-child, busiest-place, is-full, prepared, run-steps, step-writes, steps-made, target, upper-goes-on}
 use Rattle.tree.proofs.Update as up
 use Rattle.tree.proofs.Update.{Going}
-use Rattle.bridge.specs.Stored.{most-levels, Words-fit, Round-trip, Stored}
+use Rattle.bridge.specs.Stored.{most-levels, Round-trip, Stored}
 use Rattle.bridge.specs.Work.{All-sound, Work}
 use Rattle.bridge.proofs.Outcomes.{Ends, ends-with, bind-ends, save-then}
-use Rattle.bridge.proofs.Step.{Holding, After, length-step, step-ends}
+use Rattle.bridge.proofs.Step.{Holding, length-step, step-ends}
 use Rattle.bridge.proofs.Working.{same-work, write-more, wrote}
 
 -- steps that led to the tree a, with the root x: u tree writes, and from the image d on r reads and w writes, to blocks below n

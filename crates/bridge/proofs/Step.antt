@@ -1,11 +1,11 @@
 -- A step on blocks that hold a tree is the step of the tree.
 use mathlib.Core.Path.{_≡_, refl, sym, ap, subst, _∙_}
-use mathlib.Core.Logic.{_≢_, _⊎_, ⊎-elim}
+use mathlib.Core.Logic.{_≢_, ⊎-elim}
 use mathlib.Core.Bool.{Bool, true, false, cond}
-use mathlib.Core.List.{List, [], _∷_, _++_}
-use Prim.Native.Nat.{ℕ, zero, suc, _+_, _-_, _%_, _^_, _≤_, _<_}
+use mathlib.Core.List.{List}
+use Prim.Native.Nat.{ℕ, suc, _+_, _%_, _^_, _≤_, _<_}
 use native.Mathlib.Omega.{arith}
-use lib.ListN.{length, getD, length-set, length-append}
+use lib.ListN.{length, length-set, length-append}
 use Rattle.std.proofs.shelf.Tests.{cases-lt, cases-eq, cond-true}
 use Rattle.blocks.specs.Media.{most-blocks}
 use Rattle.blocks.specs.declared.state.State.the-variants.{Sound}
@@ -16,11 +16,11 @@ use Rattle.messages.specs.declared.message.Message.{Message}
 use Rattle.plan.specs.Codes.{Code}
 use Rattle.plan.specs.Images.{Image, Try, bind, save, image-read, image-written}
 use Rattle.plan.specs.Images.Try.{done}
-use Rattle.plan.specs.Steps.{Step, Fetched, fetch-child, child-block, split-if-full, upper-has-more, parted-parent, carried, step, busiest}
+use Rattle.plan.specs.Steps.{Step, fetch-child, child-block, split-if-full, parted-parent, carried, step}
 use Rattle.tree.specs.Nodes.{Node, node}
-use Rattle.tree.specs.Operations.{absorb, lower-half, moved, split-child, split-key, upper-half, with-new-child, without-batch}
-use Rattle.tree.specs.Shape.{Children, Sized, Tree}
-use Rattle.tree.specs.Update.{after-step, busiest-child, busiest-place, is-full, pending-for, prepared, target, upper-goes-on}
+use Rattle.tree.specs.Operations.{absorb, lower-half, moved, split-child, upper-half, without-batch}
+use Rattle.tree.specs.Shape.{Children, Tree}
+use Rattle.tree.specs.Update.{after-step, busiest-child, busiest-place, is-full, target, upper-goes-on}
 use Rattle.tree.proofs.Move as mv
 use Rattle.tree.proofs.Split as sp
 use Rattle.tree.proofs.Update as up

@@ -2,35 +2,33 @@
 use mathlib.Core.Path.{_≡_, refl, sym, ap, subst, _∙_}
 use mathlib.Core.Logic.{_≢_, ⊎-elim}
 use mathlib.Core.Bool.{Bool, true, false, cond}
-use mathlib.Core.List.{List, [], _∷_}
+use mathlib.Core.List.{List, _∷_}
 use Prim.Native.Nat.{ℕ, zero, suc, _+_, _%_, _^_, _≤_, _<_}
 use native.Mathlib.Omega.{arith}
 use lib.Dec.{eqb}
 use lib.ListN.{length, getD}
 use Rattle.std.proofs.shelf.Tests.{cases-eq, eqb-true}
-use Rattle.blocks.specs.Media.{most-blocks}
 use Rattle.messages.specs.Algebra.{Algebra}
 use Rattle.messages.specs.Lists.{entry}
 use Rattle.messages.specs.declared.entry.Entry.{Entry}
 use Rattle.messages.specs.declared.message.Message.{Message}
 use Rattle.plan.specs.Codes.{Code}
-use Rattle.plan.specs.Images.{Image, Try, bind, save, image-written}
+use Rattle.plan.specs.Images.{Image, bind, save, image-written}
 use Rattle.plan.specs.Images.Try.{done}
 use Rattle.plan.specs.Steps.{Settled, settle, cut-if-full, updated}
 use Rattle.tree.specs.Laws.{Keys}
 use Rattle.tree.specs.Nodes.{Node, node, height, next-free}
 use Rattle.tree.specs.Operations.{cut-root, fresh, joined, lower-inner, new-root, upper-inner, with-message}
 use Rattle.tree.specs.Shape.{Tree}
-use Rattle.tree.specs.Update.{grown, raised, run-steps, step-writes, update, writes}
+use Rattle.tree.specs.Update.{grown, raised, update, writes}
 use Rattle.tree.proofs.Costs.{costs}
 use Rattle.tree.proofs.Cut as ct
 use Rattle.tree.proofs.Grown.{held}
 use Rattle.tree.proofs.Invariants.{root-halved, tree}
 use Rattle.tree.proofs.Reached.{Halved}
 use Rattle.tree.proofs.Update as up
-use Rattle.tree.proofs.Update.{Going}
 use Rattle.bridge.specs.Laws.{On-device, Room, Updated, Update-bridge, Fresh-bridge}
-use Rattle.bridge.specs.Stored.{most-levels, Word-fits, Words-fit, Round-trip, Stored}
+use Rattle.bridge.specs.Stored.{Word-fits, Words-fit, Round-trip, Stored}
 use Rattle.bridge.specs.Work.{All-sound, Work}
 use Rattle.bridge.proofs.Outcomes.{Ends, ends-with, bind-ends, save-then, when-accepted, never-stops}
 use Rattle.bridge.proofs.Sink.{Came, length-steps, settle-ends}

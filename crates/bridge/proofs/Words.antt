@@ -1,8 +1,7 @@
 -- Words fit in every node that an update makes.
-use mathlib.Core.Bool.{cond}
-use mathlib.Core.List.{List, [], _∷_, _++_}
+use mathlib.Core.List.{List, [], _∷_}
 use Prim.{Unit}
-use Prim.Native.Nat.{ℕ, zero, suc, _+_, _^_, _<_}
+use Prim.Native.Nat.{ℕ, zero, suc, _^_, _<_}
 use lib.Dec.{eqb, ltb}
 use lib.ListN.{take, drop}
 use Rattle.std.proofs.shelf.Elements.{all-append, all-take, all-drop}
@@ -11,7 +10,7 @@ use Rattle.std.specs.declared.option.Option.{Option}
 use Rattle.std.specs.declared.option.Option.the-variants.{Some, None}
 use Rattle.std.specs.shelf.Lists.{All}
 use Rattle.messages.specs.Algebra.{Algebra}
-use Rattle.messages.specs.Lists.{entry, below, batch-size, batch, rest, join-in, joins, put-first, act-in, acts-in}
+use Rattle.messages.specs.Lists.{below, batch, join-in, joins, put-first, act-in, acts-in}
 use Rattle.messages.specs.Messages.{effect, fold}
 use Rattle.messages.specs.declared.entry.Entry.{Entry}
 use Rattle.messages.specs.declared.message.Message.{Message}

@@ -1,18 +1,17 @@
 -- Reads and writes one after another.
 use mathlib.Core.Path.{_≡_, refl, ap, subst₂, _∙_}
 use mathlib.Core.Logic.{_≢_, ⊎-elim}
-use mathlib.Core.Bool.{false, cond}
+use mathlib.Core.Bool.{false}
 use mathlib.Core.List.{List}
-use Prim.Native.Nat.{ℕ, _+_, _%_, _^_, _≤_, _<_}
+use Prim.Native.Nat.{ℕ, _+_, _≤_, _<_}
 use native.Mathlib.Omega.{arith}
 use lib.Dec.{eqb}
 use Rattle.std.proofs.shelf.Tests.{cases-eq, cond-both, cond-true, cond-false, eq-eqb, ne-eqb}
-use Rattle.blocks.specs.declared.state.State.{State}
 use Rattle.blocks.specs.declared.state.State.the-variants.{Sound}
 use Rattle.plan.specs.Codes.{Code}
 use Rattle.plan.specs.Images.{Image, image-read, image-written}
 use Rattle.tree.specs.Nodes.{Node}
-use Rattle.bridge.specs.Work.{All-sound, Work}
+use Rattle.bridge.specs.Work.{Work}
 
 pub no-work : (d : Image) (n : ℕ) → Work d d 0 0 n
 no-work d n = record {

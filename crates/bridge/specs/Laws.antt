@@ -7,7 +7,7 @@ use Rattle.blocks.specs.Media.{most-blocks}
 use Rattle.messages.specs.declared.entry.Entry.{Entry}
 use Rattle.messages.specs.declared.message.Message.{Message}
 use Rattle.plan.specs.Codes.{Code}
-use Rattle.plan.specs.Images.{Image, Try}
+use Rattle.plan.specs.Images.{Image}
 use Rattle.plan.specs.Images.Try.{done}
 use Rattle.plan.specs.Pages.{Paged, page-from}
 use Rattle.plan.specs.Queries.{Answered, seek}
