@@ -123,14 +123,14 @@ module _ (p : Place) (x : Node) (good : Fits-place p x) (h : Header) (front : Li
       let np : h .children - 1 ≡ length ps = omega arith in
       let nm : h .count ≡ length ms = count ∙ rw not-zero refl in
       let pivots : pivots-of h bs ≡ ps = (λ i. values-of (number 4) (np i) (at1 i)) ∙ values-back (number 4) ps (replicate (28 - length (rows-of (number 4) ps)) 0) (good .pivots-fit) in
-      let kids : children-of h bs ≡ cs = (λ i. values-of (number 4) (children i) (at2 i)) ∙ values-back (number 4) cs (replicate (32 - length (rows-of (number 4) cs)) 0) (good .children-fit) in
+      let child-numbers : children-of h bs ≡ cs = (λ i. values-of (number 4) (children i) (at2 i)) ∙ values-back (number 4) cs (replicate (32 - length (rows-of (number 4) cs)) 0) (good .children-fit) in
       let messages : messages-of h bs ≡ ms = (λ i. values-of message-entry-coding (nm i) (at3 i)) ∙ values-back message-entry-coding ms (replicate (4004 - length (rows-of message-entry-coding ms)) 0) (good .messages-fit) in
       let known-rows : all-rows known-row 13 (h .count) (between 92 4096 bs) ≡ true
       = (λ i. all-rows known-row 13 (nm i) (at3 i)) ∙ all-rows-pass message-entry-coding known-row (λ e more f. known-encoded (e .key) (e .value) more) ms (replicate (4004 - length (rows-of message-entry-coding ms)) 0) (good .messages-fit) in
       let exact-rows : all-rows exact-row 13 (h .count) (between 92 4096 bs) ≡ true
       = (λ i. all-rows exact-row 13 (nm i) (at3 i)) ∙ all-rows-pass message-entry-coding exact-row (λ e more f. exact-encoded (e .key) (e .value) more) ms (replicate (4004 - length (rows-of message-entry-coding ms)) 0) (good .messages-fit) in
       let rise : rising (p .low) (p .high) (pivots-of h bs) ≡ true = ap (rising (p .low) (p .high)) pivots ∙ good .pivots-rise in
-      let range : numbers-below (p .«next_free») (children-of h bs) ≡ true = ap (numbers-below (p .«next_free»)) kids ∙ good .children-below in
+      let range : numbers-below (p .«next_free») (children-of h bs) ≡ true = ap (numbers-below (p .«next_free»)) child-numbers ∙ good .children-below in
       let order : rows-in-order message-entry-coding (λ e. e .key) known-row (p .low) (p .high) (h .count) (between 92 4096 bs) ≡ true
       = and-from _ _ (ap (λ l. rising (p .low) (p .high) (map (λ e. e .key) l)) messages ∙ good .messages-rise) known-rows in
       let end1 : all-zero (drop (4 * (h .children - 1)) (between 32 60 bs)) ≡ true = (λ i. all-zero (drop (4 * np i) (at1 i))) ∙ table-end (number 4) 28 ps in
@@ -140,7 +140,7 @@ module _ (p : Place) (x : Node) (good : Fits-place p x) (h : Header) (front : Li
       = and-from _ _ unused (and-from _ _ end1 (and-from _ _ end2 (and-from _ _ exact-rows end3))) in (
         rw (ne-eqb (p .level) 0 inner) (λ i. first-broken ((rise i, Pivots) ∷ (range i, ChildNumbers) ∷ (order i, Keys) ∷ (zeros i, Unused) ∷ [])),
         rw (ne-eqb (p .level) 0 inner) (λ i. record {
-          frame = record { level = sym (good .level-is) i; low = sym (good .low-is) i; high = sym (good .high-is) i; pivots = pivots i; children = kids i };
+          frame = record { level = sym (good .level-is) i; low = sym (good .low-is) i; high = sym (good .high-is) i; pivots = pivots i; children = child-numbers i };
           messages = messages i;
           records = sym (good .inner-plain above) i;
         }),
@@ -183,12 +183,12 @@ module _ (p : Place) (h : Header) (bs : List ℕ) (block : Block bs) (few : h .c
       let z2 = and-parts _ _ (z1 .1) in
       let z3 = and-parts _ _ (z2 .1) in
       let pivots = table-at (number 4) 32 28 (h .children - 1) (omega arith) (omega (arith, eight)) (any-row 4 (h .children - 1) (between 32 60 bs)) (z1 .0) in
-      let kids = table-at (number 4) 60 32 (h .children) (omega arith) (omega (arith, eight)) (any-row 4 (h .children) (between 60 92 bs)) (z2 .0) in
+      let child-numbers = table-at (number 4) 60 32 (h .children) (omega arith) (omega (arith, eight)) (any-row 4 (h .children) (between 60 92 bs)) (z2 .0) in
       let messages = table-at message-entry-coding 92 4004 (h .count) (omega arith) (omega arith) (both-tests known-row exact-row 13 (h .count) (between 92 4096 bs) known-rows (z3 .0)) (z3 .1) in
       let last : take 4004 (drop 92 bs) ≡ drop 92 bs = take-all 4004 (drop 92 bs) (rw length-drop (omega (arith, block .0))) in
       let d1 : take 28 (drop 32 bs) ++ drop 60 bs ≡ drop 32 bs = ap (λ l. take 28 (drop 32 bs) ++ l) (sym (drop-drop 28 32 bs)) ∙ take-append-drop 28 (drop 32 bs) in
       let d2 : take 32 (drop 60 bs) ++ drop 92 bs ≡ drop 60 bs = ap (λ l. take 32 (drop 60 bs) ++ l) (sym (drop-drop 32 60 bs)) ∙ take-append-drop 32 (drop 60 bs) in
-      rw not-zero ((λ i. pivots i ++ (kids i ++ (messages ∙ last) i)) ∙ ap (λ l. take 28 (drop 32 bs) ++ l) d2 ∙ d1)
+      rw not-zero ((λ i. pivots i ++ (child-numbers i ++ (messages ∙ last) i)) ∙ ap (λ l. take 28 (drop 32 bs) ++ l) d2 ∙ d1)
 
   pub tables-forth : tables-of (node-of p h bs) ≡ drop 32 bs
   tables-forth = ⊎-elim leaf-forth inner-forth (cases-eq (p .level) 0)
@@ -243,17 +243,17 @@ module _ (p : Place) (h : Header) (bs : List ℕ) (block : Block bs) (few : h .c
       let is : x ≡ node-of p h bs = rw not-zero refl in
       let many = length-values message-entry-coding (h .count) (between 92 4096 bs) in
       let pivots = length-values (number 4) (h .children - 1) (between 32 60 bs) in
-      let kids = length-values (number 4) (h .children) (between 60 92 bs) in
+      let child-numbers = length-values (number 4) (h .children) (between 60 92 bs) in
       let good : Fits-place p x
       = record {
         level-is = refl;
         low-is = refl;
         high-is = refl;
         few = rw not-zero (omega (arith, many, few));
-        few-children = omega (arith, kids, eight .1);
+        few-children = omega (arith, child-numbers, eight .1);
         leaf-plain = λ (leaf : p .level ≡ 0). absurd (inner leaf);
         inner-plain = λ e. refl;
-        pivots-between = λ e. omega (arith, pivots, kids, eight .0);
+        pivots-between = λ e. omega (arith, pivots, child-numbers, eight .0);
         pivots-rise = t .0;
         children-below = t .1 .0;
         messages-rise = and-parts (rising (p .low) (p .high) (map (λ e. e .key) (messages-of h bs))) _ (t .1 .1 .0) .0;
