@@ -20,6 +20,7 @@ pub const MOST_MOVING: usize = 16;
 pub fn place_of<V>(entries: &[Entry<V>], key: u64) -> usize
     ensures value { λ r. ⌜ r ≡ below key (now (entries .entry)) ⌝ }
     ensures within { λ r. ⌜ r ≤ length (now (entries .entry)) ⌝ }
+    ensures all { λ r. ⌜ (4294967296 ≤ key → r ≡ length (now (entries .entry))) ⌝ }
 {
     for (i, entry) in entries.iter().enumerate() {
         if u64::from(entry.key) >= key {

@@ -111,7 +111,7 @@ leads a t (suc l) b k hb e i =
 pub within-slice : {V : Type 0} (low high q r : ℕ) (xs : List (Entry V)) → Within low high xs → Within q r (slice q r xs)
 within-slice low high q r xs w = within-below q high r _ (drop (below q xs) xs) (omega arith) (within-above low high q xs w)
 
-acts-slice : (K : Algebra) (k low high q r : ℕ) (xs : List (Entry Message)) (o : Option ℕ) → Within low high xs → q ≤ k → k < r → acts K k (slice q r xs) o ≡ acts K k xs o
+pub acts-slice : (K : Algebra) (k low high q r : ℕ) (xs : List (Entry Message)) (o : Option ℕ) → Within low high xs → q ≤ k → k < r → acts K k (slice q r xs) o ≡ acts K k xs o
 acts-slice K k low high q r xs o w g h = acts-low K k q high r (drop (below q xs) xs) o (within-above low high q xs w) h ∙ acts-high K k low high q xs o w g
 
 pages-from : (K : Algebra) (a : List Node) → Tree a → (l b k₀ low high : ℕ) → b < length a → node a b .frame .level ≡ l → In k₀ (node a b .frame)
@@ -152,7 +152,7 @@ pub length-path : (l : ℕ) (a : List Node) (b k : ℕ) → length (path l a b k
 length-path zero a b k = refl
 length-path (suc l) a b k = ap suc (length-path l a (child (node a b .frame) k) k)
 
-length-slice : {V : Type 0} (q r : ℕ) (xs : List (Entry V)) → length (slice q r xs) ≤ length xs
+pub length-slice : {V : Type 0} (q r : ℕ) (xs : List (Entry V)) → length (slice q r xs) ≤ length xs
 length-slice q r xs = simp (length-take, length-drop) (omega arith)
 
 length-leaf-page : (K : Algebra) (a : List Node) → Tree a → All-sized a → (l b k low high : ℕ) → b < length a → node a b .frame .level ≡ l → In k (node a b .frame)

@@ -29,7 +29,7 @@ find-high k low high q xs w h =
     sym (ap (find k) (sym (take-append-drop (below q xs) xs))
     ∙ find-append k low q (take (below q xs) xs) (drop (below q xs) xs) (within-below low high q (below q xs) xs (omega arith) w) h)
 
-find-slice : (k low high q r : ℕ) (xs : List (Entry ℕ)) → Within low high xs → q ≤ k → k < r → find k (slice q r xs) ≡ find k xs
+pub find-slice : (k low high q r : ℕ) (xs : List (Entry ℕ)) → Within low high xs → q ≤ k → k < r → find k (slice q r xs) ≡ find k xs
 find-slice k low high q r xs w g h = find-low k q high r (drop (below q xs) xs) (within-above low high q xs w) h ∙ find-high k low high q xs w g
 
 within-append : (low mid high : ℕ) (xs ys : List (Entry ℕ)) → low ≤ mid → mid ≤ high → Within low mid xs → Within mid high ys → Within low high (xs ++ ys)

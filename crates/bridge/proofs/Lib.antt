@@ -1,0 +1,11 @@
+pub mod Words
+pub mod Good
+pub mod Outcomes
+pub mod Working
+pub mod Children
+pub mod Step
+pub mod Sink
+pub mod Update
+pub mod Descent
+pub mod Query
+pub mod Page

@@ -1,0 +1,2 @@
+pub mod CodeOf
+pub mod Spans

@@ -1,0 +1,5 @@
+pub mod Views
+pub mod Blocks
+pub mod Checks
+pub mod Roots
+pub mod Laws

@@ -1,0 +1,5 @@
+pub mod Images
+pub mod Codes
+pub mod Steps
+pub mod Queries
+pub mod Pages

@@ -1,0 +1,5 @@
+pub mod Bytes
+pub mod Numbers
+pub mod Coding
+pub mod Tables
+pub mod Entries

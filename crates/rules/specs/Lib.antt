@@ -1,0 +1,5 @@
+pub mod Rules
+pub mod Marks
+pub mod Headers
+pub mod HeaderRules
+pub mod Keys

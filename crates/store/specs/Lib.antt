@@ -1,0 +1,4 @@
+pub mod Contents
+pub mod Updates
+pub mod Openings
+pub mod Queries
