@@ -1,0 +1,3 @@
+pub mod Images
+pub mod Room
+pub mod Laws
