@@ -1,7 +1,7 @@
 -- Updates and queries of a store that holds the tree of its messages.
 use mathlib.Core.Path.{_≡_, refl, sym, ap, subst, _∙_}
 use mathlib.Core.List.{List, _∷_}
-use Prim.Native.Nat.{ℕ, _+_, _%_, _^_, _≤_, _<_}
+use Prim.Native.Nat.{ℕ, _+_, _%_, _^_, _<_}
 use native.Mathlib.Omega.{arith}
 use lib.ListN.{length}
 use Rattle.std.specs.declared.option.Option.{Option}
@@ -12,30 +12,27 @@ use Rattle.messages.specs.declared.entry.Entry.{Entry}
 use Rattle.messages.specs.declared.message.Message.{Message}
 use Rattle.nodes.specs.Roots.{Root}
 use Rattle.node_ops.specs.CodeOf.{code-of}
-use Rattle.plan.specs.Images.{Image, Try}
+use Rattle.plan.specs.Images.{Try}
 use Rattle.plan.specs.Images.Try.{done}
 use Rattle.plan.specs.Queries.{seek}
 use Rattle.plan.specs.Queries as plan
 use Rattle.plan.specs.Steps.{Settled, updated}
 use Rattle.steps.specs.declared.cause.StoreRefusal.{StoreRefusal}
-use Rattle.bridge.specs.Laws.{On-device, Room, Updated, Found}
-use Rattle.bridge.specs.Stored.{Word-fits, Stored}
-use Rattle.bridge.specs.Work.{All-sound, Work}
+use Rattle.bridge.specs.Laws.{Room, Updated, Found}
+use Rattle.bridge.specs.Stored.{Word-fits}
 use Rattle.held.proofs.Laws.{store-updates, store-queries}
 use Rattle.store.specs.Contents.{Contents}
 use Rattle.store.specs.Contents.Answer.{accepted}
 use Rattle.store.specs.Openings.{figures-of}
 use Rattle.store.specs.Queries.{found, queried}
 use Rattle.store.specs.Updates.{settled, unless-refused, update-refusal, updated-root, updated-store}
-use Rattle.tree.specs.Nodes.{Node, node, height, next-free}
-use Rattle.tree.specs.Lookup.{said}
+use Rattle.tree.specs.Nodes.{node, height, next-free}
 use Rattle.tree.specs.Query.{query}
-use Rattle.tree.specs.Shape.{Tree}
 use Rattle.tree.specs.Update.{update, writes, grown, tree-writes}
 use Rattle.tree.proofs.Grown.{grown-tree}
 use Rattle.tree.proofs.Laws.{map-law}
 use Rattle.store_laws.specs.Held.{root-of-tree, Holds}
-use Rattle.store_laws.specs.Laws.{Accepted, Refused, Update-outcome, Update-law, Answered, Query-law}
+use Rattle.store_laws.specs.Laws.{Accepted, Update-outcome, Update-law, Answered, Query-law}
 use Rattle.store_laws.proofs.Images.{stored-after, on-device-after}
 use Rattle.store_laws.proofs.Room.{Allowed, allowed, free-level}
 

@@ -1,9 +1,9 @@
 -- An update that is not refused has room for its writes.
-use mathlib.Core.Path.{_≡_, refl, ap, subst}
+use mathlib.Core.Path.{_≡_, refl, ap}
 use mathlib.Core.Logic.{_≢_}
 use mathlib.Core.Bool.{Bool, true, false, cond, _&&_}
 use mathlib.Core.List.{List}
-use Prim.Native.Nat.{ℕ, suc, _+_, _-_, _*_, _≤_}
+use Prim.Native.Nat.{ℕ, suc, _+_, _-_, _≤_}
 use native.Mathlib.Omega.{arith}
 use lib.Dec.{eqb, ltb}
 use lib.ListN.{length}
@@ -11,19 +11,17 @@ use Rattle.std.specs.declared.option.Option.{Option}
 use Rattle.std.specs.declared.option.Option.the-variants.{Some, None}
 use Rattle.std.proofs.shelf.Tests.{eqb-true, eqb-false, ltb-false, eq-eqb, and-from}
 use Rattle.nodes.specs.Roots.{Root}
-use Rattle.plan.specs.Images.{Image}
 use Rattle.steps.specs.declared.cause.StoreRefusal.{StoreRefusal}
-use Rattle.steps.specs.declared.cause.StoreRefusal.the-variants.{FullCount, NoRoom, Spent}
+use Rattle.steps.specs.declared.cause.StoreRefusal.the-variants.{FullCount, NoRoom}
 use Rattle.store.specs.Updates.{update-refusal}
-use Rattle.tree.specs.Nodes.{Node, node, height, next-free}
+use Rattle.tree.specs.Nodes.{Node, node, height}
 use Rattle.tree.specs.Operations.{cut-root}
 use Rattle.tree.specs.Shape.{Tree}
 use Rattle.tree.specs.Update.{raised}
 use Rattle.tree.proofs.Cut as ct
 use Rattle.tree.proofs.Invariants.{root-halved}
-use Rattle.bridge.specs.Laws.{On-device, Room}
 
--- where the first of two tests holds there is a refusal
+-- where nothing is refused the first test fails, and the later ones refuse nothing
 passed : (b : Bool) (y : StoreRefusal) (o : Option StoreRefusal) → cond b (Some y) o ≡ None → (b ≡ false) × (o ≡ None)
 passed true y o e = let z : _≡_ {A = ℕ} 0 1 = cc in absurd (omega arith)
 passed false y o e = (refl, e)
