@@ -1,0 +1,5 @@
+pub mod Images
+pub mod Room
+pub mod Laws
+pub mod Roots
+pub mod Openings
