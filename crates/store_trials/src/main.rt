@@ -6,7 +6,7 @@ mod runs;
 use crate::digest::digest;
 use crate::runs::Cost;
 use crate::runs::Run;
-use crate::runs::run;
+use crate::runs::make_run;
 use std::io;
 use store::figures::Figures;
 
@@ -41,7 +41,7 @@ fn print_digests(rt: &impl Print, bytes: &[u8], blocks: usize) -> io::Result<()>
 fn main(rt: LibcRuntime) -> io::Result<()> {
     let mut bytes = vec![in rt.alloc(); 0u8; 262144]?;
     for kind in RUNS.iter() {
-        let cost = run(rt.alloc(), &mut bytes, *kind)?;
+        let cost = make_run(rt.alloc(), &mut bytes, *kind)?;
         print_cost(&rt, *kind, cost)?;
         print_digests(&rt, &bytes, kind.blocks())?;
     }

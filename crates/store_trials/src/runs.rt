@@ -86,7 +86,7 @@ fn make_updates<D: Device, K: Kind>(store: &mut Store<D, K>, run: Run) {
 }
 
 // Formats the bytes, opens a store of quantities on them, makes the updates and closes it.
-pub fn run(heap: Global, bytes: &mut [u8], run: Run) -> Result<Cost, AllocError> {
+pub fn make_run(heap: Global, bytes: &mut [u8], run: Run) -> Result<Cost, AllocError> {
     let mut workspace = Workspace::new(heap)?;
     let mut device = MemoryDevice::new(bytes, 1000000);
     let _ = format::<MemoryBlocks, QuantityKind>(&mut device, &mut workspace);
