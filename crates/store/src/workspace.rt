@@ -1,5 +1,7 @@
 // All the memory that a store ever needs, made before it is opened.
+ghost use mathlib.Core.Path.{_≡_};
 ghost use Rattle.std.specs.Vec.{made};
+ghost use Rattle.nodes.specs.Roots.{fresh-root, view-root};
 use nodes::node::Node;
 use nodes::root::Root;
 use rules::limits::BLOCK_SIZE;
@@ -17,8 +19,10 @@ pub struct Workspace {
 }
 
 impl Workspace {
-    // Only here may memory be short.
-    pub fn new(heap: Global) -> Result<Workspace, AllocError> {
+    // The root begins as a fresh one; opening and formatting give it its content. Only here may memory be short.
+    pub fn new(heap: Global) -> Result<Workspace, AllocError>
+        ensures { λ r. ⌜ made r (λ w. view-root (w .root) ≡ fresh-root 0) ⌝ }
+    {
         Ok(Workspace {
             root: Root::new(heap, 0)?,
             here: Node::new(heap)?,
