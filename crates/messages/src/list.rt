@@ -50,7 +50,7 @@ pub fn find<V: Copy>(entries: &[Entry<V>], key: u32) -> Option<V>
 // Lets a message join the messages: it folds into the one held on its key, or takes its place in the order.
 pub fn join_message<K: Kind>(messages: &mut Vec<Entry<Message>>, arriving: Entry<Message>)
     requires { vec_len messages.old < vec_capacity messages.old }
-    ensures items { messages.new.items ≡ join_in algebra arriving.key arriving.value messages.old.items }
+    ensures items { messages.new.items ≡ join_in K.algebra arriving.key arriving.value messages.old.items }
     ensures bound { vec_len messages.new ≤ vec_len messages.old + 1 }
     ensures capacity { vec_capacity messages.new ≡ vec_capacity messages.old }
 {
@@ -71,7 +71,7 @@ pub fn join_message<K: Kind>(messages: &mut Vec<Entry<Message>>, arriving: Entry
 // Lets a message act on the records of a leaf: the record of its key is replaced, removed or put in.
 pub fn apply_message<K: Kind>(records: &mut Vec<Entry<u64>>, message: Entry<Message>)
     requires { vec_len records.old < vec_capacity records.old }
-    ensures items { records.new.items ≡ act_in algebra message.key message.value records.old.items }
+    ensures items { records.new.items ≡ act_in K.algebra message.key message.value records.old.items }
     ensures bound { vec_len records.new ≤ vec_len records.old + 1 }
     ensures capacity { vec_capacity records.new ≡ vec_capacity records.old }
 {

@@ -17,8 +17,8 @@ pub enum Message {
 impl Message {
     // The one message that does what `self` and then `arriving` do.
     pub fn fold<K: Kind>(self, arriving: Message) -> Message
-        ensures which { result ≡ fold algebra self arriving }
-        ensures acts { (o : Option ℕ) → effect algebra result o ≡ effect algebra arriving (effect algebra self o) }
+        ensures which { result ≡ fold K.algebra self arriving }
+        ensures acts { (o : Option ℕ) → effect K.algebra result o ≡ effect K.algebra arriving (effect K.algebra self o) }
     {
         match (self, arriving) {
             (_, Message::Put(value)) => Message::Put(value),
@@ -31,7 +31,7 @@ impl Message {
 
     // What a key that held `held` holds after the message.
     pub fn apply<K: Kind>(self, held: Option<u64>) -> Option<u64>
-        ensures { result ≡ effect algebra self held }
+        ensures { result ≡ effect K.algebra self held }
     {
         match (self, held) {
             (Message::Put(value), _) => Some(value),

@@ -8,11 +8,11 @@ use Rattle.messages.proofs.list.take_batch.Goals as goal
 pub returns : goal.returns
 returns c =
     let qs = vec_items c.args.messages.now in
-    let first = c.place-of-first.result in
+    let first = c.place_of-first.result in
     let count = c.min-count.result in
-    let from : first ≡ below c.args.low qs = c.place-of-first.ensures.value ∙ ap (λ l. below c.from.result l) c.deref.ensures.value ∙ ap (λ k. below k qs) c.from.ensures in
-    let to : c.place-of.result ≡ below c.args.high qs = c.place-of.ensures.value ∙ ap (below c.args.high) c.deref-2.ensures.value in
-    let size : count ≡ batch_size c.args.low c.args.high qs = omega (arith, c.saturating-sub.ensures, c.min-count.ensures, from, to) in
+    let from : first ≡ below c.args.low qs = c.place_of-first.ensures.value ∙ ap (λ l. below c.from.result l) c.deref.ensures.value ∙ ap (λ k. below k qs) c.from.ensures in
+    let to : c.place_of.result ≡ below c.args.high qs = c.place_of.ensures.value ∙ ap (below c.args.high) c.deref-2.ensures.value in
+    let size : count ≡ batch_size c.args.low c.args.high qs = omega (arith, c.saturating_sub.ensures, c.min-count.ensures, from, to) in
     let fits : first + count ≤ length qs = omega (arith, size, from, below_length c.args.high qs, below_length c.args.low qs) in
     let run = length_run first count qs c.deref-3.result.now c.deref-3.ensures.value fits in
     let done = c.extend-from-slice.ensures.succeeds (omega (arith, run, c.requires, size)) in

@@ -10,7 +10,7 @@ returns c =
     let inside : c.args.block < faulty_size s.bytes.now s.states.now = omega arith in
     record {
       answer = search rules;
-      after = rw c.put-block.ensures (faulty_written s.bytes.now c.args.bytes.now s.states.now c.args.block s.allowance c.worn-self.result s.reads s.writes inside (omega arith));
+      after = rw c.put_block.ensures (faulty_written s.bytes.now c.args.bytes.now s.states.now c.args.block s.allowance c.worn-self.result s.reads s.writes inside (omega arith));
       lowered = c.worn-self.ensures.lowered;
       exact = c.worn-self.ensures.value;
       wear = refl;

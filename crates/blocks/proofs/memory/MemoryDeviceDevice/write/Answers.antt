@@ -10,8 +10,8 @@ returns c =
     let inside : c.args.block < whole_blocks (length s.bytes.now) = omega arith in
     record {
       answer = grind (arith, nat_tests);
-      after = rw c.put-block.ensures (memory_written s.bytes.now c.args.bytes.now c.args.block s.allowance (s.allowance - 1) s.reads s.writes inside (omega arith));
+      after = rw c.put_block.ensures (memory_written s.bytes.now c.args.bytes.now c.args.block s.allowance (s.allowance - 1) s.reads s.writes inside (omega arith));
       lowered = (omega arith, omega arith);
       exact = omega arith;
-      untouched = rw c.put-block.ensures (put_left_over s.bytes.now c.args.bytes.now c.args.block inside (omega arith));
+      untouched = rw c.put_block.ensures (put_left_over s.bytes.now c.args.bytes.now c.args.block inside (omega arith));
     }
