@@ -12,7 +12,7 @@ loop-item-init c = none_added c.args.sum c.ranges.sum
 pub loop-item-preserved : goal.loop-item-preserved
 loop-item-preserved c =
     let fits : (get_or c.args.page.now c.loop-item.item-index no_entry).value < 2 ^ 64 = search rules in
-    one_added _ _ c.loop-item.item-index c.cast-signed-sum.result c.args.page.now c.loop-item.auto.sum.fits c.loop-item-test.true fits c.cast-signed-sum.ensures c.loop-item.invariant
+    one_added _ _ c.loop-item.item-index c.cast_signed-sum.result c.args.page.now c.loop-item.auto.sum.fits c.loop-item-test.true fits c.cast_signed-sum.ensures c.loop-item.invariant
 
 pub returns : goal.returns
 returns c =

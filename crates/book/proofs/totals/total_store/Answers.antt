@@ -21,15 +21,15 @@ pages-preserved g c =
     let at = c.in-Ok.ensures in
     let page = c.in-Ok.page in
     let t = c.pages.sum in
-    let table = c.page-store.new.table in
+    let table = c.page_store.new.table in
     let onward = at.onward c.in-Some.key c.in-Some.is in
     let few : page.reads < 2 ^ 32 = search rules in
-    let long : length table ≡ length c.pages.table = c.page-store.auto.table in
+    let long : length table ≡ length c.pages.table = c.page_store.auto.table in
     let fits : SFits w64 t.sum = search rules in
-    let small : SFits w64 c.add-words.result = record { sfits = c.add-words.type-inv } in
-    let sum = summed t table page.entries page.reads c.from.result c.add-words.result (omega (arith, at.fits, long)) fits small c.add-words.ensures c.from.ensures in
+    let small : SFits w64 c.add_words.result = record { sfits = c.add_words.type-inv } in
+    let sum = summed t table page.entries page.reads c.from.result c.add_words.result (omega (arith, at.fits, long)) fits small c.add_words.ensures c.from.ensures in
     let left = suc c.args.high - (t.pages + 1) in (
-      ap (λ s. total_from left (contents g.S.Device c.page-store.new.store) c.args.high table s c.in-Some.key) sum
+      ap (λ s. total_from left (contents g.S.Device c.page_store.new.store) c.args.high table s c.in-Some.key) sum
           ∙ (λ i. total_from left (at.after i) c.args.high (at.table i) (with_page t (take page.entries (at.table i)) page.reads) c.in-Some.key)
           ∙ next_page c.args.high t.pages (contents g.S.Device c.pages.store) c.pages.table t c.pages.first inv.3 page c.in-Some.key at.value c.in-Some.is
           ∙ inv.0,
@@ -58,13 +58,13 @@ returns-in-None g c =
     let at = c.in-Ok.ensures in
     let page = c.in-Ok.page in
     let t = c.pages.sum in
-    let table = c.page-store.new.table in
-    let long : length table ≡ length c.pages.table = c.page-store.auto.table in
+    let table = c.page_store.new.table in
+    let long : length table ≡ length c.pages.table = c.page_store.auto.table in
     let fits : SFits w64 t.sum = search rules in
-    let small : SFits w64 c.add-words.result = record { sfits = c.add-words.type-inv } in
-    let sum = summed t table page.entries page.reads c.from.result c.add-words.result (omega (arith, at.fits, long)) fits small c.add-words.ensures c.from.ensures in
+    let small : SFits w64 c.add_words.result = record { sfits = c.add_words.type-inv } in
+    let sum = summed t table page.entries page.reads c.from.result c.add_words.result (omega (arith, at.fits, long)) fits small c.add_words.ensures c.from.ensures in
     record {
-      value = (λ i. record { answer = Ok (sum i); stock = contents g.S.Device c.page-store.new.store; table = table })
+      value = (λ i. record { answer = Ok (sum i); stock = contents g.S.Device c.page_store.new.store; table = table })
           ∙ (λ i. record { answer = Ok (with_page t (take page.entries (at.table i)) page.reads); stock = at.after i; table = at.table i })
           ∙ last_page c.args.high t.pages (contents g.S.Device c.pages.store) c.pages.table t c.pages.first inv.3 page at.value c.in-None.is
           ∙ inv.0;

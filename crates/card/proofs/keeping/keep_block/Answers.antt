@@ -11,20 +11,20 @@ use Rattle.card.proofs.keeping.keep_block.Goals.{In-default-read}
 after_both : (c : In-default-read) → held c.read.new.self ≡ was_read (was_written (held c.args.card.now) c.args.block c.args.bytes.now (c.args.card.now.allowance - 1))
 after_both c =
     let m = held c.args.card.now in
-    let left : c.write.new.self.allowance ≡ c.args.card.now.allowance - 1 = omega (arith, c.in-default.ensures.exact) in
-    c.in-default-read.ensures.after ∙ ap was_read (c.in-default.ensures.after ∙ ap (was_written m c.args.block c.args.bytes.now) left)
+    let left : c.write.new.self.allowance ≡ c.args.card.now.allowance - 1 = omega (arith, c.in_default.ensures.exact) in
+    c.in_default-read.ensures.after ∙ ap was_read (c.in_default.ensures.after ∙ ap (was_written m c.args.block c.args.bytes.now) left)
 
 -- the bytes that came back
 came_back : (c : In-default-read) → c.read.new.buffer ≡ c.args.bytes.now
 came_back c =
     let n = c.args.block in
-    c.in-default-read.ensures.buffer
-    ∙ ap (λ (m : Medium). m.bytes n) c.in-default.ensures.after
+    c.in_default-read.ensures.buffer
+    ∙ ap (λ (m : Medium). m.bytes n) c.in_default.ensures.after
     ∙ cond-true (eqb n n) c.args.bytes.now ((held c.args.card.now).bytes n) (eq-eqb n n refl)
 
 pub returns-then-eq : goal.returns-then-eq
 returns-then-eq c =
-    let accepted = c.in-default.ensures.answer in
+    let accepted = c.in_default.ensures.answer in
     record { outcome = grind (arith, nat_tests); after = after_both (goal.at.returns-then-eq c).In-default-read }
 
 pub returns-else-eq : goal.returns-else-eq

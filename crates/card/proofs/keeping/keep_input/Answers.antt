@@ -17,9 +17,9 @@ loop-part-preserved c =
     let m = held c.args.card.now in
     let t = held c.loop-part.card in
     let n = c.loop-part.part in
-    let b = c.keep-block.ensures.after ∙ ap (after_keep c.keep-block.result t n) c.fill-block.ensures in
+    let b = c.keep_block.ensures.after ∙ ap (after_keep c.keep_block.result t n) c.fill_block.ensures in
     let more =
-    keeps_more m t c.args.input.now n (vec_items c.loop-part.outcomes) c.loop-part.invariant.0 c.keep-block.result (held c.keep-block.new.card)
-    c.keep-block.ensures.outcome
+    keeps_more m t c.args.input.now n (vec_items c.loop-part.outcomes) c.loop-part.invariant.0 c.keep_block.result (held c.keep_block.new.card)
+    c.keep_block.ensures.outcome
     b in
-    (rw c.push-reserved.ensures.items more, search rules, search rules, search rules, search rules)
+    (rw c.push_reserved.ensures.items more, search rules, search rules, search rules, search rules)

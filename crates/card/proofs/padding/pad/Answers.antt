@@ -4,6 +4,6 @@ use Rattle.card.proofs.padding.pad.Goals as goal
 
 pub returns : goal.returns
 returns c =
-    padded_is c.args.bytes.now c.args.block.now c.copy-from-slice.new.self c.fill.new.self (omega arith) (omega arith)
-    c.copy-from-slice.ensures.after
+    padded_is c.args.bytes.now c.args.block.now c.copy_from_slice.new.self c.fill.new.self (omega arith) (omega arith)
+    c.copy_from_slice.ensures.after
     (c.fill.ensures.after (λ y e. e))

@@ -15,16 +15,16 @@ returns c =
     let size : count ≡ batch_size c.args.low c.args.high qs = omega (arith, c.saturating_sub.ensures, c.min-count.ensures, from, to) in
     let fits : first + count ≤ length qs = omega (arith, size, from, below_length c.args.high qs, below_length c.args.low qs) in
     let run = length_run first count qs c.deref-3.result.now c.deref-3.ensures.value fits in
-    let done = c.extend-from-slice.ensures.succeeds (omega (arith, run, c.requires, size)) in
+    let done = c.extend_from_slice.ensures.succeeds (omega (arith, run, c.requires, size)) in
     record {
       taken =
-          chosen _ _ _ _ c.extend-from-slice.ensures.items done
+          chosen _ _ _ _ c.extend_from_slice.ensures.items done
           ∙ ap (λ l. vec_items c.args.out.now ++ l) (run_read first count qs c.deref-3.result.now c.deref-3.ensures.value ∙ ap (λ n. take n (drop first qs)) size ∙ ap (λ i. take (batch_size c.args.low c.args.high qs) (drop i qs)) from);
       kept =
-          run_removed first count c.len-len.result qs (vec_items c.copy-within.new.self) (vec_items c.truncate.new.self) (omega arith) (omega arith) c.copy-within.ensures.items c.truncate.ensures.items
+          run_removed first count c.len-len.result qs (vec_items c.copy_within.new.self) (vec_items c.truncate.new.self) (omega arith) (omega arith) c.copy_within.ensures.items c.truncate.ensures.items
           ∙ ap (λ i. take i qs ++ drop (i + count) qs) from ∙ ap (λ n. take (below c.args.low qs) qs ++ drop (below c.args.low qs + n) qs) size;
-      taken-len = chosen _ _ _ _ c.extend-from-slice.ensures.len done ∙ omega (arith, run, size);
-      kept-len = omega (arith, c.truncate.ensures.len, c.copy-within.ensures.len, size, fits);
-      taken-room = c.extend-from-slice.ensures.capacity;
-      kept-room = c.truncate.ensures.capacity ∙ c.copy-within.ensures.capacity;
+      taken-len = chosen _ _ _ _ c.extend_from_slice.ensures.len done ∙ omega (arith, run, size);
+      kept-len = omega (arith, c.truncate.ensures.len, c.copy_within.ensures.len, size, fits);
+      taken-room = c.extend_from_slice.ensures.capacity;
+      kept-room = c.truncate.ensures.capacity ∙ c.copy_within.ensures.capacity;
     }

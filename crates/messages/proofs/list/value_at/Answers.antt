@@ -4,9 +4,9 @@ use Rattle.std.proofs.lemmas.Bool.Decides.{nat_tests}
 use Rattle.messages.proofs.Places.{value_within, value_past}
 use Rattle.messages.proofs.list.value_at.Goals as goal
 
-pub returns-in-default : goal.returns-in-default
+pub returns-in_default : goal.returns-in_default
 returns-in-default g c =
-    let past = ltb-false _ _ (sym c.in-default.ensures.lookup.0) in
+    let past = ltb-false _ _ (sym c.in_default.ensures.lookup.0) in
     record { value = sym (value_past c.args.place c.args.key c.args.entries.now past); within = search rules }
 
 pub returns-then-entry-key : goal.returns-then-entry-key

@@ -12,7 +12,7 @@ loop-message-preserved g c =
     let bs = c.args.arriving.now in
     let i = c.loop-message.message-index in
     let next = at_drop_more (λ (ys : List (Entry Message)). acts_in K (vec_items c.loop-message.records) ys) bs i (entry 0 (Put 0)) (omega arith) in
-    (ap (λ (xs : List (Entry ℕ)). acts_in K xs (drop (i + 1) bs)) c.apply-message.ensures.items ∙ sym next ∙ c.loop-message.invariant.0, search rules, search rules)
+    (ap (λ (xs : List (Entry ℕ)). acts_in K xs (drop (i + 1) bs)) c.apply_message.ensures.items ∙ sym next ∙ c.loop-message.invariant.0, search rules, search rules)
 
 pub returns : goal.returns
 returns g c =

@@ -12,7 +12,7 @@ loop-message-preserved g c =
     let bs = c.args.arriving.now in
     let i = c.loop-message.message-index in
     let next = at_drop_more (λ (ys : List (Entry Message)). joins K (vec_items c.loop-message.messages) ys) bs i (entry 0 (Put 0)) (omega arith) in
-    (ap (λ (xs : List (Entry Message)). joins K xs (drop (i + 1) bs)) c.join-message.ensures.items ∙ sym next ∙ c.loop-message.invariant.0, search rules, search rules)
+    (ap (λ (xs : List (Entry Message)). joins K xs (drop (i + 1) bs)) c.join_message.ensures.items ∙ sym next ∙ c.loop-message.invariant.0, search rules, search rules)
 
 pub returns : goal.returns
 returns g c =

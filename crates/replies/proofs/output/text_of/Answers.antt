@@ -8,14 +8,14 @@ use Rattle.replies.proofs.output.text_of.Goals as goal
 use Rattle.replies.proofs.output.text_of.Goals.{in-None, in-Some+in-Some-get}
 
 -- a good line, and no point left
-pub loop-line-preserved-in-default : goal.loop-line-preserved-in-default
+pub loop-line-preserved-in_default : goal.loop-line-preserved-in_default
 loop-line-preserved-in-default c =
     let xs = c.args.lines.now in
     let i = c.loop-line.line-index in
     let ps = drop c.loop-line.next c.args.points.now in
     let t = string_bytes c.loop-line.text in
     let turn = at_turn (λ (ls : List (Option Call)). text_of (replies_to ls ps)) None xs i t (text_of (replies_to xs c.args.points.now)) c.loop-line-test.true c.loop-line.invariant in
-    let none = drop_all c.loop-line.next c.args.points.now c.in-default.ensures.lookup.3 in
+    let none = drop_all c.loop-line.next c.args.points.now c.in_default.ensures.lookup.3 in
     let e = none_left (get_or xs i None) c.in-Some.call (drop (i + 1) xs) ps c.in-Some.is none in
     rw e at turn
 
@@ -37,8 +37,8 @@ loop-line-preserved c =
           let found = w.in-Some-get.ensures.lookup in
           rw (w.reply-is, w.next_is, w.to-reply.ensures) (good_first o w.in-Some.call ls p (drop j ps) (drop (j + 1) ps) w.in-Some.is (drop_at ps j p found.3.0 found.1))
     ] in
-    printed t (string_bytes c.push-str.new.self) (string_bytes c.in-ok-shown.shown) c.as-str.result.now (replies_to (o ∷ ls) (drop j ps)) (replies_to ls (drop c.match-line.next ps)) c.match-line.reply (text_of (replies_to xs ps)) turn e
-    c.in-ok-shown.ensures.ok c.as-str.ensures.value c.in-ok-push-str.ensures.bytes
+    printed t (string_bytes c.push_str.new.self) (string_bytes c.in-ok-shown.shown) c.as_str.result.now (replies_to (o ∷ ls) (drop j ps)) (replies_to ls (drop c.match-line.next ps)) c.match-line.reply (text_of (replies_to xs ps)) turn e
+    c.in-ok-shown.ensures.ok c.as_str.ensures.value c.in-ok-push_str.ensures.bytes
 
 pub returns : goal.returns
 returns c =

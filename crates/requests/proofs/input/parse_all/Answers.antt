@@ -9,12 +9,12 @@ use Rattle.requests.proofs.input.parse_all.Goals as goal
 pub loop-line-preserved : goal.loop-line-preserved
 loop-line-preserved c =
     let fewer = ap length c.in-Some.ensures.first in (
-      line_turn (vec_items c.loop-line.asked) (vec_items c.push-reserved.new.self) (lines_left c.loop-line.lines) (lines_left c.next-line.new.self) c.in-Some.line.now c.parse.result (map asked (lines_of c.args.input.now))
-          c.loop-line.invariant.0 c.in-Some.ensures.first c.parse.ensures.value c.push-reserved.ensures.items,
-      omega (arith, fewer, c.loop-line.invariant.1, c.push-reserved.ensures.len, c.push-reserved.ensures.capacity),
+      line_turn (vec_items c.loop-line.asked) (vec_items c.push_reserved.new.self) (lines_left c.loop-line.lines) (lines_left c.next_line.new.self) c.in-Some.line.now c.parse.result (map asked (lines_of c.args.input.now))
+          c.loop-line.invariant.0 c.in-Some.ensures.first c.parse.ensures.value c.push_reserved.ensures.items,
+      omega (arith, fewer, c.loop-line.invariant.1, c.push_reserved.ensures.len, c.push_reserved.ensures.capacity),
     )
 
-pub push-reserved-requires : goal.push-reserved-requires
+pub push_reserved-requires : goal.push_reserved-requires
 push-reserved-requires c = omega (arith, ap length c.in-Some.ensures.first, c.loop-line.invariant.1)
 
 pub loop-line-init : goal.loop-line-init

@@ -4,7 +4,7 @@ use Rattle.requests.specs.Runs.{good}
 use Rattle.fields.proofs.Turns.{at_turn, at_end, last_more}
 use Rattle.requests.proofs.Steps.{some_turn, none_turn}
 use Rattle.requests.proofs.input.run_of.Goals as goal
-use Rattle.requests.proofs.input.run_of.Goals.{in-Some, in-default}
+use Rattle.requests.proofs.input.run_of.Goals.{in-Some, in_default}
 
 pub loop-line-preserved : goal.loop-line-preserved
 loop-line-preserved c =
@@ -16,15 +16,15 @@ loop-line-preserved c =
     elim c.match-line.branch [
       | in-Some w ↦
           rw w.calls-is
-          (some_turn all (vec_items w.push-reserved-in-Some.new.self) (get_or xs i None) w.in-Some.call (drop (i + 1) xs) whole turn w.in-Some.is w.push-reserved-in-Some.ensures.items, omega (arith, c.loop-line.invariant.1, w.push-reserved-in-Some.ensures.len, w.push-reserved-in-Some.ensures.capacity))
-      | in-default w ↦ rw w.calls-is (none_turn all (get_or xs i None) (drop (i + 1) xs) whole turn w.in-default.is, omega (arith, c.loop-line.invariant.1))
+          (some_turn all (vec_items w.push_reserved-in-Some.new.self) (get_or xs i None) w.in-Some.call (drop (i + 1) xs) whole turn w.in-Some.is w.push_reserved-in-Some.ensures.items, omega (arith, c.loop-line.invariant.1, w.push_reserved-in-Some.ensures.len, w.push_reserved-in-Some.ensures.capacity))
+      | in_default w ↦ rw w.calls-is (none_turn all (get_or xs i None) (drop (i + 1) xs) whole turn w.in_default.is, omega (arith, c.loop-line.invariant.1))
     ]
 
-pub push-reserved-requires-2 : goal.push-reserved-requires-2
+pub push_reserved-requires-2 : goal.push_reserved-requires-2
 push-reserved-requires-2 c = omega (arith, c.loop-line.invariant.1, c.loop-line-test.false)
 
 pub returns : goal.returns
 returns c =
     let xs = c.args.lines.now in
     let all = at_end good xs c.loop-line.line-index (vec_items c.loop-line.calls) (Open ∷ good xs) refl c.loop-line-test.false c.loop-line.invariant.0 in
-    last_more (vec_items c.loop-line.calls) (vec_items c.push-reserved-2.new.self) Close (Open ∷ good xs) all c.push-reserved-2.ensures.items
+    last_more (vec_items c.loop-line.calls) (vec_items c.push_reserved-2.new.self) Close (Open ∷ good xs) all c.push_reserved-2.ensures.items

@@ -5,7 +5,7 @@ use Rattle.rows.proofs.table.read_table.Goals as goal
 pub read-requires : goal.read-requires
 read-requires g c = row_left g.T.Row.coding.size c.loop-row.-row c.args.count c.args.table.now c.loop-row.rest.now c.loop-row.invariant.1 c.requires.0 c.loop-row-test.true
 
-pub split-at-requires : goal.split-at-requires
+pub split_at-requires : goal.split_at-requires
 split-at-requires g c =
     omega (arith, row_left g.T.Row.coding.size c.loop-row.-row c.args.count c.args.table.now c.loop-row.rest.now c.loop-row.invariant.1 c.requires.0 c.loop-row-test.true, c.size.ensures)
 
@@ -13,9 +13,9 @@ pub loop-row-preserved : goal.loop-row-preserved
 loop-row-preserved g c =
     let k = g.T.Row.coding in
     let bs = c.args.table.now in (
-      read_more k (vec_items c.args.values.now) (vec_items c.loop-row.values) (vec_items c.push-reserved.new.self) c.read.result bs c.loop-row.rest.now c.loop-row.-row
-          c.push-reserved.ensures.items c.loop-row.invariant.0 c.loop-row.invariant.1 c.read.ensures,
-      rw c.size.ensures at c.split-at.ensures.back ∙ rest_more k bs c.loop-row.rest.now c.loop-row.-row c.loop-row.invariant.1,
-      c.push-reserved.ensures.capacity ∙ c.loop-row.invariant.2,
+      read_more k (vec_items c.args.values.now) (vec_items c.loop-row.values) (vec_items c.push_reserved.new.self) c.read.result bs c.loop-row.rest.now c.loop-row.-row
+          c.push_reserved.ensures.items c.loop-row.invariant.0 c.loop-row.invariant.1 c.read.ensures,
+      rw c.size.ensures at c.split_at.ensures.back ∙ rest_more k bs c.loop-row.rest.now c.loop-row.-row c.loop-row.invariant.1,
+      c.push_reserved.ensures.capacity ∙ c.loop-row.invariant.2,
       omega arith,
     )

@@ -12,5 +12,5 @@ invariant-loop-row g l =
     × (l.rest ≡ drop (c.size * l.-row) l.table)
     × (vec_capacity l.entries ≡ vec_capacity l.initial.entries)
     × (vec_len l.entries ≡ vec_len l.initial.entries + l.-row)
-    × (rows_in_order c k.key k.known l.low l.high l.count l.table ≡ (l.in-order && rows_in_order c k.key k.known l.next l.high left l.rest))
+    × (rows_in_order c k.key k.known l.low l.high l.count l.table ≡ (l.in_order && rows_in_order c k.key k.known l.next l.high left l.rest))
     × (all_rows k.exact c.size l.count l.table ≡ (l.exact && all_rows k.exact c.size left l.rest))

@@ -7,9 +7,9 @@ use Rattle.runs.proofs.run.play.Goals as goal
 pub loop-call-preserved : goal.loop-call-preserved
 loop-call-preserved g c =
     let kept = c.loop-call.invariant in
-    let made = c.make-call-turn.ensures in
-    let pushed = c.push-reserved.ensures.items in
-    let more = called_more (vec_items c.loop-call.trace) c.make-call-turn.result.point in
+    let made = c.make_call-turn.ensures in
+    let pushed = c.push_reserved.ensures.items in
+    let more = called_more (vec_items c.loop-call.trace) c.make_call-turn.result.point in
     let next = take_more c.args.calls.now c.loop-call.call-index Open c.loop-call-test.true in (
       search rules,
       search rules,

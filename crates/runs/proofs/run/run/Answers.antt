@@ -6,16 +6,16 @@ use Rattle.runs.proofs.run.run.Goals as goal
 pub returns-in-Err-format : goal.returns-in-Err-format
 returns-in-Err-format g c =
     let new = c.new-book.ensures in
-    let back = c.devices-of-stock.ensures in
+    let back = c.devices_of-stock.ensures in
     unfit_at g.S.Device.meaning g.D.Device.meaning c.args.stock c.new-book.result.stock c.format.new.self.stock _ c.args.day c.new-book.result.day c.format.new.self.day _
     new.0 new.1 back.0 back.1 c.in-Err-format.refusal c.in-Err-format.ensures.value
 
 pub returns : goal.returns
 returns g c =
     let new = c.new-book.ensures in
-    let formatted = c.in-default.ensures in
+    let formatted = c.in_default.ensures in
     let played = c.play-book.ensures in
-    let back = c.devices-of-stock-2.ensures in
+    let back = c.devices_of-stock-2.ensures in
     let S = g.S.Device.meaning in
     let D = g.D.Device.meaning in
     let before = c.format.new.self in

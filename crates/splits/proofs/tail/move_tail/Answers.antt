@@ -7,9 +7,9 @@ pub returns : goal.returns
 returns g c =
     let from = c.deref.result.now in
     let place = c.args.place in
-    let ok = c.extend-from-slice.ensures.succeeds (simp (length-take, length-drop) (omega arith)) in
-    let put = chosen _ _ _ _ c.extend-from-slice.ensures.items ok in
-    let put_length = chosen _ _ _ _ c.extend-from-slice.ensures.len ok in
+    let ok = c.extend_from_slice.ensures.succeeds (simp (length-take, length-drop) (omega arith)) in
+    let put = chosen _ _ _ _ c.extend_from_slice.ensures.items ok in
+    let put_length = chosen _ _ _ _ c.extend_from_slice.ensures.len ok in
     let moved : length (take (length from - place) (drop place from)) ≡ length from - place = ap length (take_rest from place) ∙ length-drop place from in
     record {
       lower = c.truncate.ensures.items;

@@ -19,9 +19,9 @@ returns g c =
     let last = c.args.last in
     let newer = vec_items c.args.gathering.now.gathered in
     let told = c.in-Ok.ensures in
-    let read = told.value ∙ ap (fetch_child C d c.args.next_free x) c.child-for-j.ensures in
+    let read = told.value ∙ ap (fetch_child C d c.args.next_free x) c.child_for-j.ensures in
     let met = c.gather.ensures.items ∙ ap (λ end. gathered K first end x newer) c.page_end.ensures in
-    let past : first < child_high x c.child-for-j.result = rw c.child-for-j.ensures (onward x.frame.pivots first x.frame.high (omega arith)) in
+    let past : first < child_high x c.child_for-j.result = rw c.child_for-j.ensures (onward x.frame.pivots first x.frame.high (omega arith)) in
     record {
       value = (λ i. done (record { image = image (g.D.Device.meaning c.fetch_child.new.device); child = view c.fetch_child.new.child; newer = met i }))
           ∙ ap (λ t. bind t (λ f. done (lowered_to C x first last newer f))) read;

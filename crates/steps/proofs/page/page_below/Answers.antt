@@ -44,8 +44,8 @@ returns g c =
     let x = c.down.here in
     let d = image (g.D.Device.meaning c.down.device) in
     record {
-      value = ends C d c.args.next_free (view x) c.args.first c.args.last (vec_items c.down.gathering.gathered) c.down.reads x.level _ _ c.down.invariant.0 (omega arith) (c.end-page.ensures.value d);
+      value = ends C d c.args.next_free (view x) c.args.first c.args.last (vec_items c.down.gathering.gathered) c.down.reads x.level _ _ c.down.invariant.0 (omega arith) (c.end_page.ensures.value d);
       allowance = search rules;
-      count = c.end-page.ensures.count;
-      onward = c.end-page.ensures.onward;
+      count = c.end_page.ensures.count;
+      onward = c.end_page.ensures.onward;
     }

@@ -27,8 +27,8 @@ returns g c =
     let told = c.in-Ok.ensures in
     let none = ap (lower C d c.args.next_free (view x) c.args.first c.args.last) c.clear.ensures.items in
     record {
-      value = c.page-below.ensures.value ∙ goes C d c.args.next_free (view x) c.args.first c.args.last [] 0 x.level c.lower.new.child.level _ _ refl (told.sizes refl).0 (told.value ∙ none);
+      value = c.page_below.ensures.value ∙ goes C d c.args.next_free (view x) c.args.first c.args.last [] 0 x.level c.lower.new.child.level _ _ refl (told.sizes refl).0 (told.value ∙ none);
       allowance = search rules;
-      count = c.page-below.ensures.count;
-      onward = c.page-below.ensures.onward;
+      count = c.page_below.ensures.count;
+      onward = c.page_below.ensures.onward;
     }

@@ -19,7 +19,7 @@ returns-in-Err g c =
     let x = c.args.root.now in
     let C = code_of g.K.Kind.algebra in
     let d = image (g.D.Device.meaning c.args.device.now) in
-    let read = c.in-Err.ensures.value ∙ ap (fetch_child C d c.args.next_free (view x)) c.child-for-j.ensures in
+    let read = c.in-Err.ensures.value ∙ ap (fetch_child C d c.args.next_free (view x)) c.child_for-j.ensures in
     record {
       value = stops C d c.args.next_free (view x) c.args.key None 0 x.level _ _ _ _ refl c.requires.0 c.in-Down.ensures read;
       allowance = search rules;
@@ -31,8 +31,8 @@ returns g c =
     let C = code_of g.K.Kind.algebra in
     let d = image (g.D.Device.meaning c.args.device.now) in
     let told = c.in-Ok.ensures in
-    let read = told.value ∙ ap (fetch_child C d c.args.next_free (view x)) c.child-for-j.ensures in
+    let read = told.value ∙ ap (fetch_child C d c.args.next_free (view x)) c.child_for-j.ensures in
     record {
-      value = c.seek-key.ensures.value ∙ goes C d c.args.next_free (view x) c.args.key None 0 x.level c.fetch_child.new.child.level _ _ _ refl (told.sizes refl).0 c.in-Down.ensures read;
+      value = c.seek_key.ensures.value ∙ goes C d c.args.next_free (view x) c.args.key None 0 x.level c.fetch_child.new.child.level _ _ _ refl (told.sizes refl).0 c.in-Down.ensures read;
       allowance = search rules;
     }

@@ -8,7 +8,7 @@ use Rattle.steps.proofs.Seeking.{settles, stops, goes}
 use Rattle.plan.specs.Steps.{fetch_child}
 use Rattle.steps.proofs.query.seek_key.Given.{Over}
 use Rattle.steps.proofs.query.seek_key.Goals as goal
-use Rattle.steps.proofs.query.seek_key.Goals.{After-fetch-child}
+use Rattle.steps.proofs.query.seek_key.Goals.{After-fetch_child}
 
 pub returns-in-Settled : goal.returns-in-Settled
 returns-in-Settled g c =
@@ -20,16 +20,16 @@ returns-in-Settled g c =
     }
 
 -- the child that was read is the one that takes the key
-fetched : (g : Over) (c : After-fetch-child g) → fetch_child (code_of g.K.Kind.algebra) (image (g.D.Device.meaning c.down.device)) c.args.next_free (view c.down.here) c.child-for-j.result
+fetched : (g : Over) (c : After-fetch_child g) → fetch_child (code_of g.K.Kind.algebra) (image (g.D.Device.meaning c.down.device)) c.args.next_free (view c.down.here) c.child_for-j.result
     ≡ fetch_child (code_of g.K.Kind.algebra) (image (g.D.Device.meaning c.down.device)) c.args.next_free (view c.down.here) (place_among (view c.down.here).frame.pivots c.args.key)
-fetched g c = ap (fetch_child (code_of g.K.Kind.algebra) (image (g.D.Device.meaning c.down.device)) c.args.next_free (view c.down.here)) c.child-for-j.ensures
+fetched g c = ap (fetch_child (code_of g.K.Kind.algebra) (image (g.D.Device.meaning c.down.device)) c.args.next_free (view c.down.here)) c.child_for-j.ensures
 
 pub returns-in-Err : goal.returns-in-Err
 returns-in-Err g c =
     let C = code_of g.K.Kind.algebra in
     let x = c.down.here in
     record {
-      value = stops C (image (g.D.Device.meaning c.down.device)) c.args.next_free (view x) c.args.key c.down.met c.down.reads x.level _ _ _ _ c.down.invariant.0 (omega arith) c.in-Down.ensures (c.in-Err.ensures.value ∙ fetched g (goal.at.returns-in-Err g c).After-fetch-child);
+      value = stops C (image (g.D.Device.meaning c.down.device)) c.args.next_free (view x) c.args.key c.down.met c.down.reads x.level _ _ _ _ c.down.invariant.0 (omega arith) c.in-Down.ensures (c.in-Err.ensures.value ∙ fetched g (goal.at.returns-in-Err g c).After-fetch_child);
       allowance = search rules;
     }
 
@@ -42,7 +42,7 @@ down-preserved g c =
     let less = (told.sizes refl).0 in
     let level = ap (λ (y : NodeInMemory). y.level) here in (
       ap (λ (y : NodeInMemory). seek C y.level (image (g.D.Device.meaning c.fetch_child.new.device)) c.args.next_free (view y) c.args.key c.in-Down.deltas (c.down.reads + 1)) here
-          ∙ goes C (image (g.D.Device.meaning c.down.device)) c.args.next_free (view x) c.args.key c.down.met c.down.reads x.level c.fetch_child.new.child.level _ _ _ c.down.invariant.0 less c.in-Down.ensures (told.value ∙ fetched g (goal.at.down-preserved g c).After-fetch-child),
+          ∙ goes C (image (g.D.Device.meaning c.down.device)) c.args.next_free (view x) c.args.key c.down.met c.down.reads x.level c.fetch_child.new.child.level _ _ _ c.down.invariant.0 less c.in-Down.ensures (told.value ∙ fetched g (goal.at.down-preserved g c).After-fetch_child),
       search rules,
       omega (arith, level, less),
     )

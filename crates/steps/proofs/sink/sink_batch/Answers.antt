@@ -22,12 +22,12 @@ returns-in-Err g c =
       spent = λ ok. absurd (not_ok ok);
     }
 
-pub returns-in-Err-save-node : goal.returns-in-Err-save-node
+pub returns-in-Err-save_node : goal.returns-in-Err-save_node
 returns-in-Err-save-node g c =
     let p = c.down.progress in
     let due = c.down-test.ensures in
     record {
-      value = save_stops (code_of g.K.Kind.algebra) (image (g.D.Device.meaning c.down.device)) p.next_free p.tree_writes c.down.at (view c.down.here) _ _ _ _ c.down.invariant.0 due.value c.in-Ok.ensures.value c.in-Err-save-node.ensures.value;
+      value = save_stops (code_of g.K.Kind.algebra) (image (g.D.Device.meaning c.down.device)) p.next_free p.tree_writes c.down.at (view c.down.here) _ _ _ _ c.down.invariant.0 due.value c.in-Ok.ensures.value c.in-Err-save_node.ensures.value;
       lowered = (omega (arith, due.inner refl), omega (arith, due.inner refl));
       next = omega (arith, due.inner refl);
       spent = λ ok. absurd (not_ok ok);
@@ -36,7 +36,7 @@ returns-in-Err-save-node g c =
 pub down-preserved : goal.down-preserved
 down-preserved g c =
     let p = c.down.progress in
-    let q = c.make-step.new.progress in
+    let q = c.make_step.new.progress in
     let went = c.in-Ok.ensures in
     let due = c.down-test.ensures in
     let here = c.swap.ensures.x-after in
@@ -46,8 +46,8 @@ down-preserved g c =
     let one = rise_one q.tree_writes in
     let first = rise_more start p.tree_writes q.tree_writes (omega (arith, step.counted)) in
     let more = rise_more start q.tree_writes ((q.tree_writes + 1) % 2 ^ 64) (omega (arith, first, one, step.counted)) in (
-      ap (λ (x : NodeInMemory). sink (code_of g.K.Kind.algebra) x.level (image (g.D.Device.meaning c.save-node.new.device)) q.next_free ((q.tree_writes + 1) % 2 ^ 64) c.in-Ok.to (view x)) here
-          ∙ goes (code_of g.K.Kind.algebra) (image (g.D.Device.meaning c.down.device)) p.next_free p.tree_writes c.down.at (view c.down.here) _ _ _ c.make-step.new.child.level c.down.invariant.0 due.value went.value c.in-Ok-save-node.ensures.value (went.level refl),
+      ap (λ (x : NodeInMemory). sink (code_of g.K.Kind.algebra) x.level (image (g.D.Device.meaning c.save_node.new.device)) q.next_free ((q.tree_writes + 1) % 2 ^ 64) c.in-Ok.to (view x)) here
+          ∙ goes (code_of g.K.Kind.algebra) (image (g.D.Device.meaning c.down.device)) p.next_free p.tree_writes c.down.at (view c.down.here) _ _ _ c.make_step.new.child.level c.down.invariant.0 due.value went.value c.in-Ok-save_node.ensures.value (went.level refl),
       omega (arith, due.inner refl, level),
       omega (arith, due.inner refl, level),
       omega (arith, due.inner refl, level),
@@ -57,11 +57,11 @@ down-preserved g c =
       omega (arith, first, one, more, step.fell),
     )
 
-pub returns-in-Ok-save-node-2 : goal.returns-in-Ok-save-node-2
+pub returns-in-Ok-save_node-2 : goal.returns-in-Ok-save_node-2
 returns-in-Ok-save-node-2 g c =
     let p = c.down.progress in
     record {
-      value = ends (code_of g.K.Kind.algebra) (image (g.D.Device.meaning c.down.device)) p.next_free p.tree_writes c.down.at (view c.down.here) _ _ c.down.invariant.0 c.down-test.ensures.value c.in-Ok-save-node-2.ensures.value;
+      value = ends (code_of g.K.Kind.algebra) (image (g.D.Device.meaning c.down.device)) p.next_free p.tree_writes c.down.at (view c.down.here) _ _ c.down.invariant.0 c.down-test.ensures.value c.in-Ok-save_node-2.ensures.value;
       lowered = (omega arith, omega arith);
       next = omega arith;
       spent = λ _.
@@ -69,11 +69,11 @@ returns-in-Ok-save-node-2 g c =
           record { counted = omega (arith, more, rise_one p.tree_writes); fell = omega (arith, more, rise_one p.tree_writes) };
     }
 
-pub returns-in-Err-save-node-2 : goal.returns-in-Err-save-node-2
+pub returns-in-Err-save_node-2 : goal.returns-in-Err-save_node-2
 returns-in-Err-save-node-2 g c =
     let p = c.down.progress in
     record {
-      value = last_stops (code_of g.K.Kind.algebra) (image (g.D.Device.meaning c.down.device)) p.next_free p.tree_writes c.down.at (view c.down.here) _ _ _ c.down.invariant.0 c.down-test.ensures.value c.in-Err-save-node-2.ensures.value;
+      value = last_stops (code_of g.K.Kind.algebra) (image (g.D.Device.meaning c.down.device)) p.next_free p.tree_writes c.down.at (view c.down.here) _ _ _ c.down.invariant.0 c.down-test.ensures.value c.in-Err-save_node-2.ensures.value;
       lowered = (omega arith, omega arith);
       next = omega arith;
       spent = λ ok. absurd (not_ok ok);

@@ -4,5 +4,5 @@ use Rattle.fields.proofs.token.Token.tell.Goals as goal
 
 pub returns : goal.returns
 returns c =
-    let e = c.token-of.ensures in
-    record { sort = e.sort; right = told_right c.args.text.now (told_of c.token-of.result) e.sort; part = e.part; at = e.at }
+    let e = c.token_of.ensures in
+    record { sort = e.sort; right = told_right c.args.text.now (told_of c.token_of.result) e.sort; part = e.part; at = e.at }

@@ -3,7 +3,7 @@ use Rattle.nodes.proofs.node.Node.load.Goals as goal
 
 pub returns-then-place-eq0 : goal.returns-then-place-eq0
 returns-then-place-eq0 c =
-    record { fault = leaf_tables c.args.place.now c.args.header.now c.args.block.now c.load-leaf.result c.if-place-eq0.true c.load-leaf.ensures.fault; node = c.load-leaf.ensures.node; sizes = c.load-leaf.ensures.sizes }
+    record { fault = leaf_tables c.args.place.now c.args.header.now c.args.block.now c.load_leaf.result c.if-place-eq0.true c.load_leaf.ensures.fault; node = c.load_leaf.ensures.node; sizes = c.load_leaf.ensures.sizes }
 
 pub returns-else-place-eq0 : goal.returns-else-place-eq0
 returns-else-place-eq0 c =

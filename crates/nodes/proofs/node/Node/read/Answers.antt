@@ -27,7 +27,7 @@ returns-in-Some-load c =
     let bs = c.args.block.now in
     let is = read (goal.at.returns-in-Some-load c).After-read-header in
     record {
-      answer = bad_tables tt (header_rules p) (λ h. table_rules p h bs) bs c.read-header.result is c.in-default.ensures.value c.in-Some-load.rule c.in-Some-load.ensures.fault;
+      answer = bad_tables tt (header_rules p) (λ h. table_rules p h bs) bs c.read-header.result is c.in_default.ensures.value c.in-Some-load.rule c.in-Some-load.ensures.fault;
       node = not_ok;
       sizes = not_ok;
       exact = not_ok;
@@ -39,6 +39,6 @@ returns-in-None c =
     let p = c.args.place.now in
     let bs = c.args.block.now in
     let is = read (goal.at.returns-in-None c).After-read-header in
-    let answer = none_bad tt (header_rules p) (λ h. table_rules p h bs) bs c.read-header.result is c.in-default.ensures.value c.in-None.ensures.fault in
+    let answer = none_bad tt (header_rules p) (λ h. table_rules p h bs) bs c.read-header.result is c.in_default.ensures.value c.in-None.ensures.fault in
     let node = c.load.ensures.node ∙ ap (λ h. node_of p h bs) is in
     record { answer = answer; node = λ e. node; exact = λ e. node_exact p bs (view c.load.new.self) c.told-block c.fits-block answer node; sizes = λ e. c.load.ensures.sizes }

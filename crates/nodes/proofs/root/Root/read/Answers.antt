@@ -31,7 +31,7 @@ returns-in-Some-load c =
     let is = read (goal.at.returns-in-Some-load c).After-read-header in
     record {
       answer =
-          bad_tables (mark_of (header_of bs).mark) (root_header_rules c.args.size) (λ h. table_rules (root_place h) h bs) bs h is c.in-default.ensures.value c.in-Some-load.rule
+          bad_tables (mark_of (header_of bs).mark) (root_header_rules c.args.size) (λ h. table_rules (root_place h) h bs) bs h is c.in_default.ensures.value c.in-Some-load.rule
           (c.in-Some-load.ensures.fault ∙ ap (λ p. first_broken (table_rules p h bs)) c.root_place.ensures);
       root = not_ok;
       exact = tt;
@@ -46,13 +46,13 @@ returns-in-None c =
     let h = c.read-header.result in
     let is = read (goal.at.returns-in-None c).After-read-header in
     let node = c.load.ensures.node ∙ ap (λ p. node_of p h bs) c.root_place.ensures in
-    let mark = c.root-mark.ensures ∙ ap (λ x. mark_of x.mark) is in
+    let mark = c.root_mark.ensures ∙ ap (λ x. mark_of x.mark) is in
     let answer =
     ap Ok mark
-    ∙ none_bad (mark_of (header_of bs).mark) (root_header_rules c.args.size) (λ h. table_rules (root_place h) h bs) bs h is c.in-default.ensures.value
+    ∙ none_bad (mark_of (header_of bs).mark) (root_header_rules c.args.size) (λ h. table_rules (root_place h) h bs) bs h is c.in_default.ensures.value
     (c.in-None.ensures.fault ∙ ap (λ p. first_broken (table_rules p h bs)) c.root_place.ensures) in
     let root : _ ≡ root_of bs = (λ i. record { node = node i; kind = h.kind; next_free = h.next_free; updates = h.updates; tree_writes = h.tree_writes }) ∙ ap (λ x. root_by x bs) is in
     let level = c.load.ensures.sizes.0 ∙ ap (λ (p : Place). p.level) c.root_place.ensures in
-    let fits = c.in-default.ensures.fits in
-    let most = c.in-default.ensures.limits in
-    record { answer = answer; root = λ e. root; exact = root_exact c.args.size bs c.root-mark.result _ c.told-block c.fits-block answer mark root; limits = λ e. (omega (arith, level, fits.1.0), omega (arith, level, most.0), c.load.ensures.sizes.1, most.1); span = λ e. (ap (λ (x : Node). x.frame.low) node, ap (λ (x : Node). x.frame.high) node) }
+    let fits = c.in_default.ensures.fits in
+    let most = c.in_default.ensures.limits in
+    record { answer = answer; root = λ e. root; exact = root_exact c.args.size bs c.root_mark.result _ c.told-block c.fits-block answer mark root; limits = λ e. (omega (arith, level, fits.1.0), omega (arith, level, most.0), c.load.ensures.sizes.1, most.1); span = λ e. (ap (λ (x : Node). x.frame.low) node, ap (λ (x : Node). x.frame.high) node) }

@@ -4,7 +4,7 @@ use Rattle.store.proofs.store.Store.close.Goals as goal
 
 pub returns : goal.returns
 returns g c =
-    let told = c.hand-back.ensures in
+    let told = c.hand_back.ensures in
     record {
       value = told.value;
       lowered = told.lowered;
