@@ -17,11 +17,12 @@ def main():
         names = set(WORDS)
         for n in sorted(os.listdir(src)):
             text = re.sub(r"//.*", "", open(os.path.join(src, n), encoding="utf-8").read())
+            names.update(re.findall(r"(?:ensures|requires|ghost) ([a-z0-9]+(?:_[a-z0-9]+)+)", text))
             text = "\n".join(l for l in text.split("\n") if not re.match(r"\s*(ghost|requires|ensures)\b", l))
             names.update(w for w in re.findall(r"[A-Za-z][A-Za-z0-9]*(?:_[A-Za-z0-9]+)+", text))
         olds = {n.replace("_", "-"): n for n in names}
         by = re.compile(r"(?<![A-Za-z0-9'_])(" + "|".join(sorted(map(re.escape, olds), key=len, reverse=True)) + r")(?![A-Za-z0-9'_])")
-        made = re.compile(r"(?<=[.\s({,])([A-Za-z][A-Za-z0-9_']*(?:-[A-Za-z0-9_']+)+)")
+        made = re.compile(r"(?:(?<=[.\s({,])|^)([A-Za-z][A-Za-z0-9_']*(?:-[A-Za-z0-9_']+)+)")
         for folder, dirs, files in os.walk(os.path.join(TOP, "crates", crate, "proofs")):
             for f in files:
                 if f not in ("Answers.antt", "Invariants.antt"):

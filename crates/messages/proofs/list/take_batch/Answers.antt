@@ -23,8 +23,8 @@ returns c =
       kept =
           run_removed first count c.len-len.result qs (vec_items c.copy_within.new.self) (vec_items c.truncate.new.self) (omega arith) (omega arith) c.copy_within.ensures.items c.truncate.ensures.items
           ∙ ap (λ i. take i qs ++ drop (i + count) qs) from ∙ ap (λ n. take (below c.args.low qs) qs ++ drop (below c.args.low qs + n) qs) size;
-      taken-len = chosen _ _ _ _ c.extend_from_slice.ensures.len done ∙ omega (arith, run, size);
-      kept-len = omega (arith, c.truncate.ensures.len, c.copy_within.ensures.len, size, fits);
-      taken-room = c.extend_from_slice.ensures.capacity;
-      kept-room = c.truncate.ensures.capacity ∙ c.copy_within.ensures.capacity;
+      taken_len = chosen _ _ _ _ c.extend_from_slice.ensures.len done ∙ omega (arith, run, size);
+      kept_len = omega (arith, c.truncate.ensures.len, c.copy_within.ensures.len, size, fits);
+      taken_room = c.extend_from_slice.ensures.capacity;
+      kept_room = c.truncate.ensures.capacity ∙ c.copy_within.ensures.capacity;
     }

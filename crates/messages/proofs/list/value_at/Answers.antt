@@ -5,7 +5,7 @@ use Rattle.messages.proofs.Places.{value_within, value_past}
 use Rattle.messages.proofs.list.value_at.Goals as goal
 
 pub returns-in_default : goal.returns-in_default
-returns-in-default g c =
+returns-in_default g c =
     let past = ltb-false _ _ (sym c.in_default.ensures.lookup.0) in
     record { value = sym (value_past c.args.place c.args.key c.args.entries.now past); within = search rules }
 

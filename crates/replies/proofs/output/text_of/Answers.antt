@@ -9,7 +9,7 @@ use Rattle.replies.proofs.output.text_of.Goals.{in-None, in-Some+in-Some-get}
 
 -- a good line, and no point left
 pub loop-line-preserved-in_default : goal.loop-line-preserved-in_default
-loop-line-preserved-in-default c =
+loop-line-preserved-in_default c =
     let xs = c.args.lines.now in
     let i = c.loop-line.line-index in
     let ps = drop c.loop-line.next c.args.points.now in

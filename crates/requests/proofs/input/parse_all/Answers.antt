@@ -15,7 +15,7 @@ loop-line-preserved c =
     )
 
 pub push_reserved-requires : goal.push_reserved-requires
-push-reserved-requires c = omega (arith, ap length c.in-Some.ensures.first, c.loop-line.invariant.1)
+push_reserved-requires c = omega (arith, ap length c.in-Some.ensures.first, c.loop-line.invariant.1)
 
 pub loop-line-init : goal.loop-line-init
 loop-line-init c =

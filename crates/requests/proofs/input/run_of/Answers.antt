@@ -21,7 +21,7 @@ loop-line-preserved c =
     ]
 
 pub push_reserved-requires-2 : goal.push_reserved-requires-2
-push-reserved-requires-2 c = omega (arith, c.loop-line.invariant.1, c.loop-line-test.false)
+push_reserved-requires-2 c = omega (arith, c.loop-line.invariant.1, c.loop-line-test.false)
 
 pub returns : goal.returns
 returns c =

@@ -6,7 +6,7 @@ pub read-requires : goal.read-requires
 read-requires g c = row_left g.T.Row.coding.size c.loop-row.-row c.args.count c.args.table.now c.loop-row.rest.now c.loop-row.invariant.1 c.requires.0 c.loop-row-test.true
 
 pub split_at-requires : goal.split_at-requires
-split-at-requires g c =
+split_at-requires g c =
     omega (arith, row_left g.T.Row.coding.size c.loop-row.-row c.args.count c.args.table.now c.loop-row.rest.now c.loop-row.invariant.1 c.requires.0 c.loop-row-test.true, c.size.ensures)
 
 pub loop-row-preserved : goal.loop-row-preserved

@@ -6,10 +6,10 @@ use Rattle.rows.proofs.Tables.{row_within, size_more, rows_more}
 use Rattle.rows.proofs.table.write_rows.Goals as goal
 
 pub overflow_add-to : goal.overflow_add-to
-overflow-add-to g c = omega (arith, row_within g.T.Row.coding.size c.loop-value.value-index (length c.args.values.now) c.loop-value-test.true)
+overflow_add-to g c = omega (arith, row_within g.T.Row.coding.size c.loop-value.value-index (length c.args.values.now) c.loop-value-test.true)
 
 pub slice_bounds-write-end : goal.slice_bounds-write-end
-slice-bounds-write-end g c =
+slice_bounds-write-end g c =
     let h = row_within g.T.Row.coding.size c.loop-value.value-index (length c.args.values.now) c.loop-value-test.true in
     let e : c.loop-value.from + c.size.result ≤ length c.loop-value.bytes = omega arith in
     search rules

@@ -10,13 +10,13 @@ pub read-entry-requires : goal.read-entry-requires
 read-entry-requires g c = row_left g.T.Row.coding.size c.loop-row.-row c.args.count c.args.table.now c.loop-row.rest.now c.loop-row.invariant.1 c.requires.0 c.loop-row-test.true
 
 pub is_known-requires : goal.is_known-requires
-is-known-requires g c = row_left g.T.Row.coding.size c.loop-row.-row c.args.count c.args.table.now c.loop-row.rest.now c.loop-row.invariant.1 c.requires.0 c.loop-row-test.true
+is_known-requires g c = row_left g.T.Row.coding.size c.loop-row.-row c.args.count c.args.table.now c.loop-row.rest.now c.loop-row.invariant.1 c.requires.0 c.loop-row-test.true
 
 pub is_exact-exact-requires : goal.is_exact-exact-requires
-is-exact-exact-requires g c = row_left g.T.Row.coding.size c.loop-row.-row c.args.count c.args.table.now c.loop-row.rest.now c.loop-row.invariant.1 c.requires.0 c.loop-row-test.true
+is_exact-exact-requires g c = row_left g.T.Row.coding.size c.loop-row.-row c.args.count c.args.table.now c.loop-row.rest.now c.loop-row.invariant.1 c.requires.0 c.loop-row-test.true
 
 pub split_at-requires : goal.split_at-requires
-split-at-requires g c =
+split_at-requires g c =
     omega (arith, row_left g.T.Row.coding.size c.loop-row.-row c.args.count c.args.table.now c.loop-row.rest.now c.loop-row.invariant.1 c.requires.0 c.loop-row-test.true, c.size.ensures)
 
 pub loop-row-preserved : goal.loop-row-preserved

@@ -8,7 +8,7 @@ one_more : (low high : ℕ) (ks : List ℕ) (i : ℕ) → i < length ks → risi
 one_more low high ks i h = at_drop_more (rising low high) ks i 0 h
 
 pub returns-then-not-is_inside : goal.returns-then-not-is_inside
-returns-then-not-is-inside c = let h = one_more c.loop-k.next c.args.high c.args.keys.now c.loop-k.k-index (omega arith) in let t = c.if-not-is_inside.ensures in grind (arith, nat_tests)
+returns-then-not-is_inside c = let h = one_more c.loop-k.next c.args.high c.args.keys.now c.loop-k.k-index (omega arith) in let t = c.if-not-is_inside.ensures in grind (arith, nat_tests)
 
 pub loop-k-preserved : goal.loop-k-preserved
 loop-k-preserved c = let h = one_more c.loop-k.next c.args.high c.args.keys.now c.loop-k.k-index (omega arith) in let t = c.if-not-is_inside.ensures in rw add-one (grind (arith, nat_tests))

@@ -8,7 +8,7 @@ one_more : (limit : ℕ) (ns : List ℕ) (i : ℕ) → i < length ns → numbers
 one_more limit ns i h = at_drop_more (numbers_below limit) ns i 0 h
 
 pub returns-then-not-is_taken : goal.returns-then-not-is_taken
-returns-then-not-is-taken c = let h = one_more c.args.next_free c.args.numbers.now c.loop-n.n-index (omega arith) in let t = c.if-not-is_taken.ensures in grind (arith, nat_tests)
+returns-then-not-is_taken c = let h = one_more c.args.next_free c.args.numbers.now c.loop-n.n-index (omega arith) in let t = c.if-not-is_taken.ensures in grind (arith, nat_tests)
 
 pub loop-n-preserved : goal.loop-n-preserved
 loop-n-preserved c = let h = one_more c.args.next_free c.args.numbers.now c.loop-n.n-index (omega arith) in let t = c.if-not-is_taken.ensures in grind (arith, nat_tests)

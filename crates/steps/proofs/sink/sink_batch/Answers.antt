@@ -23,7 +23,7 @@ returns-in-Err g c =
     }
 
 pub returns-in-Err-save_node : goal.returns-in-Err-save_node
-returns-in-Err-save-node g c =
+returns-in-Err-save_node g c =
     let p = c.down.progress in
     let due = c.down-test.ensures in
     record {
@@ -58,7 +58,7 @@ down-preserved g c =
     )
 
 pub returns-in-Ok-save_node-2 : goal.returns-in-Ok-save_node-2
-returns-in-Ok-save-node-2 g c =
+returns-in-Ok-save_node-2 g c =
     let p = c.down.progress in
     record {
       value = ends (code_of g.K.Kind.algebra) (image (g.D.Device.meaning c.down.device)) p.next_free p.tree_writes c.down.at (view c.down.here) _ _ c.down.invariant.0 c.down-test.ensures.value c.in-Ok-save_node-2.ensures.value;
@@ -70,7 +70,7 @@ returns-in-Ok-save-node-2 g c =
     }
 
 pub returns-in-Err-save_node-2 : goal.returns-in-Err-save_node-2
-returns-in-Err-save-node-2 g c =
+returns-in-Err-save_node-2 g c =
     let p = c.down.progress in
     record {
       value = last_stops (code_of g.K.Kind.algebra) (image (g.D.Device.meaning c.down.device)) p.next_free p.tree_writes c.down.at (view c.down.here) _ _ _ c.down.invariant.0 c.down-test.ensures.value c.in-Err-save_node-2.ensures.value;
