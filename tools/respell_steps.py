@@ -8,7 +8,7 @@ import re
 import sys
 
 TOP = sys.argv[1] if len(sys.argv) > 1 else "."
-WORDS = ["in_default", "overflow_mul", "overflow_add", "overflow_sub", "overflow_cast", "overflow_step", "overflow_shl", "slice_bounds", "nonzero_div", "nonzero_rem", "offset_bounds"]
+WORDS = ["in_default", "In_default", "in_ok", "in_err", "In_ok", "In_err", "overflow_mul", "overflow_add", "overflow_sub", "overflow_cast", "overflow_step", "overflow_shl", "slice_bounds", "nonzero_div", "nonzero_rem", "offset_bounds"]
 
 
 def main():
@@ -35,7 +35,7 @@ def main():
                         out.append(line)
                         continue
                     out.append(made.sub(lambda m: by.sub(lambda k: olds[k.group(1)], m.group(1)), line))
-                new = "\n".join(out)
+                new = re.sub(r"\.-([a-z])", r"._\1", "\n".join(out))
                 if new != text:
                     open(p, "w", encoding="utf-8").write(new)
 

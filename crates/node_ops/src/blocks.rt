@@ -18,8 +18,8 @@ pub fn read_node<K: Kind>(
     next_free: u32,
     node: &mut Node,
 ) -> Result<(), Rule>
-    ensures answer { number_of_error result ≡ (code_of algebra).fault level low high next_free block.now }
-    ensures node { is_ok result ≡ true → view node.new ≡ decoded (code_of algebra) level low high block.now }
+    ensures answer { number_of_error result ≡ (code_of K.algebra).fault level low high next_free block.now }
+    ensures node { is_ok result ≡ true → view node.new ≡ decoded (code_of K.algebra) level low high block.now }
     ensures sizes { is_ok result ≡ true → (node.new.level ≡ level) × (vec_len node.new.messages ≤ 256) }
     ensures span { is_ok result ≡ true → (node.new.low ≡ low) × (node.new.high ≡ high) }
 {
@@ -35,7 +35,7 @@ pub fn read_node<K: Kind>(
 
 // Fills the block with a node.
 pub fn write_node<K: Kind>(node: &Node, block: &mut [u8; 4096])
-    ensures { block.new ≡ (code_of algebra).encode (view node.now) }
+    ensures { block.new ≡ (code_of K.algebra).encode (view node.now) }
 {
     node.write(K::number(), block);
 }

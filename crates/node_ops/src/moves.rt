@@ -13,7 +13,7 @@ use nodes::node::Node;
 // Lets a message join an inner node's messages. There is room for it.
 pub fn join<K: Kind>(node: &mut Node, arriving: Entry<Message>)
     requires { (vec_len node.old.messages ≤ 271) × (0 < node.old.level) }
-    ensures value { view node.new ≡ with_message algebra arriving.key arriving.value (view node.old) }
+    ensures value { view node.new ≡ with_message K.algebra arriving.key arriving.value (view node.old) }
     ensures level { node.new.level ≡ node.old.level }
     ensures children { vec_len node.new.children ≡ vec_len node.old.children }
     ensures messages { vec_len node.new.messages ≤ vec_len node.old.messages + 1 }
@@ -25,7 +25,7 @@ pub fn join<K: Kind>(node: &mut Node, arriving: Entry<Message>)
 // Lets messages join a node's messages, one after another.
 pub fn join_all<K: Kind>(messages: &mut Vec<Entry<Message>>, arriving: &[Entry<Message>])
     requires { vec_len messages.old + length arriving.now ≤ vec_capacity messages.old }
-    ensures items { messages.new.items ≡ joins algebra messages.old.items arriving.now }
+    ensures items { messages.new.items ≡ joins K.algebra messages.old.items arriving.now }
     ensures bound { vec_len messages.new ≤ vec_len messages.old + length arriving.now }
     ensures capacity { vec_capacity messages.new ≡ vec_capacity messages.old }
 {
@@ -37,7 +37,7 @@ pub fn join_all<K: Kind>(messages: &mut Vec<Entry<Message>>, arriving: &[Entry<M
 // Lets messages act on a leaf's records, one after another.
 pub fn apply_all<K: Kind>(records: &mut Vec<Entry<u64>>, arriving: &[Entry<Message>])
     requires { vec_len records.old + length arriving.now ≤ vec_capacity records.old }
-    ensures items { records.new.items ≡ acts_in algebra records.old.items arriving.now }
+    ensures items { records.new.items ≡ acts_in K.algebra records.old.items arriving.now }
     ensures bound { vec_len records.new ≤ vec_len records.old + length arriving.now }
     ensures capacity { vec_capacity records.new ≡ vec_capacity records.old }
 {
@@ -49,7 +49,7 @@ pub fn apply_all<K: Kind>(records: &mut Vec<Entry<u64>>, arriving: &[Entry<Messa
 // A node takes messages: a leaf's records are acted on, an inner node's messages are joined.
 pub fn absorb_all<K: Kind>(node: &mut Node, arriving: &[Entry<Message>])
     requires { ((length arriving.now ≤ 16) × (vec_len node.old.messages ≤ 256)) × ((node.old.level ≡ 0 → vec_len node.old.records ≤ 240)) }
-    ensures value { view node.new ≡ absorb algebra arriving.now (view node.old) }
+    ensures value { view node.new ≡ absorb K.algebra arriving.now (view node.old) }
     ensures level { node.new.level ≡ node.old.level }
     ensures children { vec_len node.new.children ≡ vec_len node.old.children }
 {
@@ -64,7 +64,7 @@ pub fn absorb_all<K: Kind>(node: &mut Node, arriving: &[Entry<Message>])
 pub fn move_batch<K: Kind>(parent: &mut Node, child: &mut Node, batch: &mut Vec<Entry<Message>>)
     requires { ((16 ≤ vec_capacity batch.old) × (0 < parent.old.level)) × ((vec_len child.old.messages ≤ 256) × ((child.old.level ≡ 0 → vec_len child.old.records ≤ 240))) }
     ensures parent { view parent.new ≡ without_batch child.old.low child.old.high (view parent.old) }
-    ensures child { view child.new ≡ absorb algebra (batch_of child.old.low child.old.high parent.old.messages.items) (view child.old) }
+    ensures child { view child.new ≡ absorb K.algebra (batch_of child.old.low child.old.high parent.old.messages.items) (view child.old) }
     ensures levels { (parent.new.level ≡ parent.old.level) × (child.new.level ≡ child.old.level) }
     ensures children { (vec_len parent.new.children ≡ vec_len parent.old.children) × (vec_len child.new.children ≡ vec_len child.old.children) }
     ensures fewer { 0 < pending child.old.low child.old.high parent.old.messages.items → vec_len parent.new.messages < vec_len parent.old.messages }

@@ -49,7 +49,7 @@ pub fn gather<K: Kind>(
     spare: &mut Vec<Entry<Message>>,
 )
     requires { vec_len node.now.messages + vec_len gathered.old ≤ vec_capacity spare.old }
-    ensures items { gathered.new.items ≡ gathered_from algebra first end (view node.now) gathered.old.items }
+    ensures items { gathered.new.items ≡ gathered_from K.algebra first end (view node.now) gathered.old.items }
     ensures bound { vec_len gathered.new ≤ vec_len node.now.messages + vec_len gathered.old }
     ensures room { (vec_capacity spare.old ≤ vec_capacity gathered.new) × (vec_capacity gathered.old ≤ vec_capacity spare.new) }
 {
@@ -68,7 +68,7 @@ pub fn page_of_leaf<K: Kind>(
     entries: &mut Vec<Entry<u64>>,
 )
     requires { 256 + length gathered.now ≤ vec_capacity entries.old }
-    ensures items { entries.new.items ≡ slice first end (acts_in algebra (view leaf.now).records gathered.now) }
+    ensures items { entries.new.items ≡ slice first end (acts_in K.algebra (view leaf.now).records gathered.now) }
     ensures few { vec_len entries.new ≤ 256 + length gathered.now }
     ensures room { vec_capacity entries.old ≤ vec_capacity entries.new }
 {

@@ -53,8 +53,8 @@ impl Row for Message {
 
 // Fills the row with the key and then the value.
 fn write_entry<V: Row>(entry: Entry<V>, row: &mut [u8])
-    requires { length row.old ≡ 4 + coding.size }
-    ensures { row.new ≡ (entry_coding coding).encode entry }
+    requires { length row.old ≡ 4 + V.coding.size }
+    ensures { row.new ≡ (entry_coding V.coding).encode entry }
 {
     entry.key.write(&mut row[0..4]);
     entry.value.write(&mut row[4..]);
@@ -62,8 +62,8 @@ fn write_entry<V: Row>(entry: Entry<V>, row: &mut [u8])
 
 // The key, and the value behind it.
 fn read_entry<V: Row>(bytes: &[u8]) -> Entry<V>
-    requires { 4 + coding.size ≤ length bytes.now }
-    ensures { result ≡ (entry_coding coding).decode bytes.now }
+    requires { 4 + V.coding.size ≤ length bytes.now }
+    ensures { result ≡ (entry_coding V.coding).decode bytes.now }
 {
     Entry {
         key: u32::read(bytes),

@@ -6,9 +6,9 @@ use crate::row::Row;
 
 // Writes the values to the front of the bytes, row by row, and gives the place behind them.
 fn write_rows<T: Row>(bytes: &mut [u8], values: &[T]) -> usize
-    requires { coding.size * length values.now ≤ length bytes.old }
-    ensures place { result ≡ coding.size * length values.now }
-    ensures front { take result bytes.new ≡ rows_of coding values.now }
+    requires { T.coding.size * length values.now ≤ length bytes.old }
+    ensures place { result ≡ T.coding.size * length values.now }
+    ensures front { take result bytes.new ≡ rows_of T.coding values.now }
 {
     let mut from = 0;
     for value in values {
@@ -21,8 +21,8 @@ fn write_rows<T: Row>(bytes: &mut [u8], values: &[T]) -> usize
 
 // Fills the table with the values, and zeros behind them.
 pub fn write_table<T: Row>(table: &mut [u8], values: &[T])
-    requires { coding.size * length values.now ≤ length table.old }
-    ensures { table.new ≡ table_of coding (length table.old) values.now }
+    requires { T.coding.size * length values.now ≤ length table.old }
+    ensures { table.new ≡ table_of T.coding (length table.old) values.now }
 {
     let used = write_rows(table, values);
     table[used..].fill(0);
@@ -30,11 +30,11 @@ pub fn write_table<T: Row>(table: &mut [u8], values: &[T])
 
 // Adds what the first `count` rows say to `values`, which has room for it, and gives the bytes behind them.
 pub fn read_table<'a, T: Row>(table: &'a [u8], count: usize, values: &mut Vec<T>) -> &'a [u8]
-    requires { (coding.size * count ≤ length table.now) × (vec_len values.old + count ≤ vec_capacity values.old) }
-    ensures values { values.new.items ≡ values.old.items ++ values_of coding count table.now }
+    requires { (T.coding.size * count ≤ length table.now) × (vec_len values.old + count ≤ vec_capacity values.old) }
+    ensures values { values.new.items ≡ values.old.items ++ values_of T.coding count table.now }
     ensures capacity { vec_capacity values.new ≡ vec_capacity values.old }
     ensures length { vec_len values.new ≡ vec_len values.old + count }
-    ensures rest { result.now ≡ drop (coding.size * count) table.now }
+    ensures rest { result.now ≡ drop (T.coding.size * count) table.now }
 {
     let mut rest = table;
     for _row in 0..count {
@@ -47,5 +47,5 @@ pub fn read_table<'a, T: Row>(table: &'a [u8], count: usize, values: &mut Vec<T>
 
 // Values come back from their table, and a table of valid rows and zeros from its values.
 pub fn tables_round_trip<T: Row>()
-    ensures { TablesRoundTrip coding }
+    ensures { TablesRoundTrip T.coding }
 {}

@@ -69,7 +69,7 @@ fn end_page<K: Kind>(
     gathering: &mut Gathering,
 ) -> Page
     requires { (vec_len gathering.old.gathered ≤ 2048) × (first < leaf.now.high) }
-    ensures value { (d : Image) → record { image = d; entries = gathering.new.entries.items; next = result.next; reads = result.reads } ≡ leaf_paged algebra d (view leaf.now) first last gathering.old.gathered.items reads }
+    ensures value { (d : Image) → record { image = d; entries = gathering.new.entries.items; next = result.next; reads = result.reads } ≡ leaf_paged K.algebra d (view leaf.now) first last gathering.old.gathered.items reads }
     ensures count { (result.entries ≡ vec_len gathering.new.entries) × (result.entries ≤ 2304) }
     ensures onward { (k : ℕ) → result.next ≡ Some k → (first < k) × (k ≤ last) }
 {

@@ -20,7 +20,7 @@ use plan::verdict::Verdict;
 
 // What a key holds once the deltas met above act on it.
 fn act_on<K: Kind>(met: Option<u64>, value: Option<u64>) -> Option<u64>
-    ensures { result ≡ acted algebra met value }
+    ensures { result ≡ acted K.algebra met value }
 {
     let Some(delta) = met else {
         return value;
@@ -30,7 +30,7 @@ fn act_on<K: Kind>(met: Option<u64>, value: Option<u64>) -> Option<u64>
 
 // An older delta joined with the newer ones met above it.
 fn join_before<K: Kind>(older: u64, met: Option<u64>) -> u64
-    ensures { result ≡ joined_before algebra older met }
+    ensures { result ≡ joined_before K.algebra older met }
 {
     let Some(newer) = met else {
         return older;
@@ -40,7 +40,7 @@ fn join_before<K: Kind>(older: u64, met: Option<u64>) -> u64
 
 // What a node's message on the key says, with the newer deltas met above it.
 fn judge<K: Kind>(node: &Node, key: u32, met: Option<u64>) -> Verdict
-    ensures { result ≡ judged algebra (found key (view node.now).messages) met }
+    ensures { result ≡ judged K.algebra (found key (view node.now).messages) met }
 {
     let Some(message) = find(&node.messages, key) else {
         return Verdict::Down(met);

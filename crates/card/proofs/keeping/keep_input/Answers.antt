@@ -10,7 +10,7 @@ pub loop-part-init : goal.loop-part-init
 loop-part-init c =
     let m = held c.args.card.now in
     let start = keeps_none m c.args.input.now in
-    (rw c.in-ok-outcomes.ensures.items start, search rules, search rules, search rules, search rules)
+    (rw c.in_ok-outcomes.ensures.items start, search rules, search rules, search rules, search rules)
 
 pub loop-part-preserved : goal.loop-part-preserved
 loop-part-preserved c =

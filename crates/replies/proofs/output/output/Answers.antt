@@ -8,7 +8,7 @@ pub returns : goal.returns
 returns c =
     let ls = c.args.lines.now in
     let trace = c.args.trace.now in
-    let whole = output_is (string_bytes c.in-ok-text.text) ls c.inner.result.now trace c.in-ok-text.ensures c.inner.ensures in
+    let whole = output_is (string_bytes c.in_ok-text.text) ls c.inner.result.now trace c.in_ok-text.ensures c.inner.ensures in
     record {
       text = whole;
       parts = ap lines_of whole ∙ falls_apart (replies_to ls (between trace));

@@ -37,8 +37,8 @@ loop-line-preserved c =
           let found = w.in-Some-get.ensures.lookup in
           rw (w.reply-is, w.next_is, w.to-reply.ensures) (good_first o w.in-Some.call ls p (drop j ps) (drop (j + 1) ps) w.in-Some.is (drop_at ps j p found.3.0 found.1))
     ] in
-    printed t (string_bytes c.push_str.new.self) (string_bytes c.in-ok-shown.shown) c.as_str.result.now (replies_to (o ∷ ls) (drop j ps)) (replies_to ls (drop c.match-line.next ps)) c.match-line.reply (text_of (replies_to xs ps)) turn e
-    c.in-ok-shown.ensures.ok c.as_str.ensures.value c.in-ok-push_str.ensures.bytes
+    printed t (string_bytes c.push_str.new.self) (string_bytes c.in_ok-shown.shown) c.as_str.result.now (replies_to (o ∷ ls) (drop j ps)) (replies_to ls (drop c.match-line.next ps)) c.match-line.reply (text_of (replies_to xs ps)) turn e
+    c.in_ok-shown.ensures.ok c.as_str.ensures.value c.in_ok-push_str.ensures.bytes
 
 pub returns : goal.returns
 returns c =

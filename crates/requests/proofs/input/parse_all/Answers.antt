@@ -20,5 +20,5 @@ push_reserved-requires c = omega (arith, ap length c.in-Some.ensures.first, c.lo
 pub loop-line-init : goal.loop-line-init
 loop-line-init c =
     let left = c.new-lines.ensures.left in
-    let made = c.in-ok-asked.ensures in
+    let made = c.in_ok-asked.ensures in
     (rw (made.items, left) refl, omega (arith, few_lines c.args.input.now, ap length left, made.len, made.capacity))

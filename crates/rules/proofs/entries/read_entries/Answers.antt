@@ -7,17 +7,17 @@ use Rattle.rules.proofs.Passes.{order_more, exact_more, none_left}
 use Rattle.rules.proofs.entries.read_entries.Goals as goal
 
 pub read-entry-requires : goal.read-entry-requires
-read-entry-requires g c = row_left g.T.Row.coding.size c.loop-row.-row c.args.count c.args.table.now c.loop-row.rest.now c.loop-row.invariant.1 c.requires.0 c.loop-row-test.true
+read-entry-requires g c = row_left g.T.Row.coding.size c.loop-row._row c.args.count c.args.table.now c.loop-row.rest.now c.loop-row.invariant.1 c.requires.0 c.loop-row-test.true
 
 pub is_known-requires : goal.is_known-requires
-is_known-requires g c = row_left g.T.Row.coding.size c.loop-row.-row c.args.count c.args.table.now c.loop-row.rest.now c.loop-row.invariant.1 c.requires.0 c.loop-row-test.true
+is_known-requires g c = row_left g.T.Row.coding.size c.loop-row._row c.args.count c.args.table.now c.loop-row.rest.now c.loop-row.invariant.1 c.requires.0 c.loop-row-test.true
 
 pub is_exact-exact-requires : goal.is_exact-exact-requires
-is_exact-exact-requires g c = row_left g.T.Row.coding.size c.loop-row.-row c.args.count c.args.table.now c.loop-row.rest.now c.loop-row.invariant.1 c.requires.0 c.loop-row-test.true
+is_exact-exact-requires g c = row_left g.T.Row.coding.size c.loop-row._row c.args.count c.args.table.now c.loop-row.rest.now c.loop-row.invariant.1 c.requires.0 c.loop-row-test.true
 
 pub split_at-requires : goal.split_at-requires
 split_at-requires g c =
-    omega (arith, row_left g.T.Row.coding.size c.loop-row.-row c.args.count c.args.table.now c.loop-row.rest.now c.loop-row.invariant.1 c.requires.0 c.loop-row-test.true, c.size.ensures)
+    omega (arith, row_left g.T.Row.coding.size c.loop-row._row c.args.count c.args.table.now c.loop-row.rest.now c.loop-row.invariant.1 c.requires.0 c.loop-row-test.true, c.size.ensures)
 
 pub loop-row-preserved : goal.loop-row-preserved
 loop-row-preserved g c =
@@ -25,7 +25,7 @@ loop-row-preserved g c =
     let t = g.T.KeyedRow in
     let bs = c.args.table.now in
     let rest = c.loop-row.rest.now in
-    let i = c.loop-row.-row in
+    let i = c.loop-row._row in
     let less = c.loop-row-test.true in
     let tail = rw c.size.ensures at c.split_at.ensures.back in
     let key = c.from-key.ensures ∙ c.key.ensures ∙ ap t.key c.read-entry.ensures in (
@@ -44,8 +44,8 @@ returns g c =
     let t = g.T.KeyedRow in
     let bs = c.args.table.now in
     let rest = c.loop-row.rest.now in
-    let e : c.loop-row.-row ≡ c.args.count = omega arith in
-    let none : c.args.count - c.loop-row.-row ≡ 0 = omega arith in
+    let e : c.loop-row._row ≡ c.args.count = omega arith in
+    let none : c.args.count - c.loop-row._row ≡ 0 = omega arith in
     record {
       entries = rw e at c.loop-row.invariant.0;
       capacity = c.loop-row.invariant.2;

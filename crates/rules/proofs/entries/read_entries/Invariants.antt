@@ -7,10 +7,10 @@ abbrev pub invariant-loop-row : goal.invariant-loop-row
 invariant-loop-row g l =
     let c = g.T.Row.coding in
     let k = g.T.KeyedRow in
-    let left = l.count - l.-row in
-    (vec_items l.entries ≡ vec_items l.initial.entries ++ values_of c l.-row l.table)
-    × (l.rest ≡ drop (c.size * l.-row) l.table)
+    let left = l.count - l._row in
+    (vec_items l.entries ≡ vec_items l.initial.entries ++ values_of c l._row l.table)
+    × (l.rest ≡ drop (c.size * l._row) l.table)
     × (vec_capacity l.entries ≡ vec_capacity l.initial.entries)
-    × (vec_len l.entries ≡ vec_len l.initial.entries + l.-row)
+    × (vec_len l.entries ≡ vec_len l.initial.entries + l._row)
     × (rows_in_order c k.key k.known l.low l.high l.count l.table ≡ (l.in_order && rows_in_order c k.key k.known l.next l.high left l.rest))
     × (all_rows k.exact c.size l.count l.table ≡ (l.exact && all_rows k.exact c.size left l.rest))
