@@ -96,8 +96,8 @@ pub fn read_entries<T: KeyedRow>(
     ensures entries { entries.new.items ≡ entries.old.items ++ values_of T.Row.coding count table.now }
     ensures capacity { vec_capacity entries.new ≡ vec_capacity entries.old }
     ensures length { vec_len entries.new ≡ vec_len entries.old + count }
-    ensures order { result.in_order ≡ rows_in_order T.Row.coding key known low high count table.now }
-    ensures exact { result.exact ≡ rows_exact T.Row.coding exact count table.now }
+    ensures order { result.in_order ≡ rows_in_order T.Row.coding T.key T.known low high count table.now }
+    ensures exact { result.exact ≡ rows_exact T.Row.coding T.exact count table.now }
 {
     let mut rest = table;
     let mut next = u64::from(low);
