@@ -1,4 +1,6 @@
 // The stock book: two stores, of quantities and of latest days by sheet, as one book.
+#![tactic(auto)]
+
 pub mod asking;
 pub mod book;
 pub mod opening;

@@ -1,5 +1,7 @@
 // What each call of a book does, as definitions, and the laws of a book that keeps its changes: each function here computes nothing, and
 // its contract is a theorem.
+#![tactic(auto)]
+
 ghost use Rattle.book_plan.specs.Laws.{ChangeLaw, QueryLaw, TotalLaw};
 
 // A change is refused exactly on its conditions and then leaves the book as it was, or is kept; it never meets a fault.

@@ -1,4 +1,6 @@
 // Where blocks hold a tree, what is done to the blocks is what is done to the tree: each function here computes nothing, and its contract is a theorem.
+#![tactic(auto)]
+
 ghost use Rattle.bridge.specs.Laws.{FreshBridge, UpdateBridge, QueryBridge, PageBridge};
 
 // Blocks hold the fresh tree where block 1 holds its empty leaf.

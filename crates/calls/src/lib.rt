@@ -1,4 +1,6 @@
 // The calls of a book, what it answers, and what is seen of it after each call.
+#![tactic(auto)]
+
 pub mod answer;
 pub mod call;
 pub mod part;

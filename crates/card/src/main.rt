@@ -1,4 +1,6 @@
 // Puts standard input on a card in memory, block by block, reads each block back and prints what came of it.
+#![tactic(auto)]
+
 mod input;
 mod keeping;
 mod outcome;

@@ -1,5 +1,7 @@
 // Runs stores on devices whose blocks are lost, damaged or tampered with, whose counts wrap, and whose allowance falls only sometimes, and
 // prints what each call answers.
+#![tactic(auto)]
+
 mod bad;
 mod card;
 mod tampered;

@@ -1,4 +1,6 @@
 // Lines, their fields, and what a field is told as.
+#![tactic(auto)]
+
 pub mod line_reader;
 pub mod lines;
 mod numbers;

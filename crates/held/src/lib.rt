@@ -1,4 +1,6 @@
 // The blocks of a store of any kind hold its tree, in the format of nodes: each function here computes nothing, and its contract is a theorem.
+#![tactic(auto)]
+
 ghost use Rattle.held.specs.Laws.{NodesFit, NodesComeBack, StoreUpdates, StoreQueries, StorePages};
 
 // A node of a tree below the root breaks no rule of the format where its parent says that it stands.

@@ -1,4 +1,6 @@
 // Messages to keys, how they fold into one another, and ordered lists of entries.
+#![tactic(auto)]
+
 pub mod entry;
 pub mod examples;
 pub mod kind;

@@ -1,6 +1,8 @@
 // What a step does to nodes in memory: the choice of a child, a new child, a batch that moves down.
-pub mod blocks;
+#![tactic(auto)]
+
 pub mod children;
 pub mod moves;
+pub mod node_block;
 pub mod paging;
 pub mod pending;

@@ -1,4 +1,6 @@
 // Reads blocks that break one rule or two, each where its node stands, and prints the rule that is told first.
+#![tactic(auto)]
+
 ghost use Rattle.std.specs.Prelude.{◌≡◌};
 ghost use Rattle.node_trials.specs.Trials.{changed, told};
 ghost use Rattle.nodes.specs.Checks.{node_fault, root_fault};

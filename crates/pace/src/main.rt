@@ -1,4 +1,6 @@
 // Runs many updates on a store in memory and prints what it cost, so that anyone can time it.
+#![tactic(auto)]
+
 use blocks::device::Device;
 use blocks::memory::MemoryDevice;
 use messages::kind::Kind;

@@ -1,5 +1,7 @@
 // Runs updates on stores in memory, and prints the figures, the device's counts and what pages over all keys gave. The expected output
 // comes from an independent model of the rules.
+#![tactic(auto)]
+
 mod pages;
 mod runs;
 

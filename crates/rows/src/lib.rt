@@ -1,4 +1,6 @@
 // Numbers and other values as rows of bytes, and tables of such rows.
+#![tactic(auto)]
+
 pub mod bytes;
 pub mod entries;
 pub mod numbers;

@@ -1,4 +1,6 @@
 // The steps of updates, queries and pages on a device.
+#![tactic(auto)]
+
 pub mod access;
 pub mod cause;
 pub mod gathering;

@@ -1,4 +1,6 @@
 // One ordered store of one kind on one device.
+#![tactic(auto)]
+
 pub mod asking;
 pub mod conditions;
 pub mod fault;

@@ -1,4 +1,6 @@
 // A store that was formatted here keeps the tree of its messages: each function here computes nothing, and its contract is a theorem.
+#![tactic(auto)]
+
 ghost use Rattle.store_laws.specs.Laws.{FormatLaw, OpenLaw, UpdateLaw, QueryLaw, PageLaw, CloseLaw};
 
 // A sound device of at least 4 blocks, with 2 writes left, is formatted: a store without messages rests on it.

@@ -1,5 +1,7 @@
 // Runs updates on stores in memory, and prints the figures, the device's counts and a digest of each block after closing. The expected
 // output comes from an independent model of the rules.
+#![tactic(auto)]
+
 mod digest;
 mod runs;
 

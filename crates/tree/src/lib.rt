@@ -1,4 +1,6 @@
 // The tree as a value, defined in specs/, and its laws: each function here computes nothing, and its contract is a theorem.
+#![tactic(auto)]
+
 ghost use Rattle.std.specs.Prelude.{ℕ};
 ghost use Rattle.messages.specs.Algebra.{Algebra};
 ghost use Rattle.tree.specs.Laws.{MapLaw, UpdateLaw, PageLaw, TotalLaw, SumLaw, ShapeLaw, BatchLaw, ChoiceLaw, SplitLaw, WearLaw, CostLaw, KnownRun};

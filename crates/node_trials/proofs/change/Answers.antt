@@ -17,7 +17,7 @@ loop-c-preserved c =
     = λ h. sym (set_past c.loop-c.block _ _ (omega (arith, h, c.loop-c.invariant.0))) in (
       c.if-c-lt-BLOCK_SIZE.array_long,
       one_more cs i c.loop-c.block c.if-c-lt-BLOCK_SIZE.block _ c.loop-c-test.true c.loop-c.invariant.1
-          (elim c.if-c-lt-BLOCK_SIZE.branch [ then-c-lt-BLOCK_SIZE w ↦ w.block_is | else-c-lt-BLOCK_SIZE w ↦ w.block_is ∙ past w.if-c-lt-BLOCK_SIZE.false ]),
+          (elim c.if-c-lt-BLOCK_SIZE.branch [ then-c-lt-BLOCK_SIZE w ↦ w.block-is | else-c-lt-BLOCK_SIZE w ↦ w.block-is ∙ past w.if-c-lt-BLOCK_SIZE.false ]),
     )
 
 pub returns : goal.returns

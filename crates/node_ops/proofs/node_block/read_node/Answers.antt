@@ -4,7 +4,7 @@ use Rattle.rules.specs.HeaderRules.{verdict}
 use Rattle.rules.specs.declared.rule.Rule.{Rule}
 use Rattle.node_ops.specs.CodeOf.{fault_of, pivots_at, children_at, messages_at, records_at, place_at, number_of_rule, number_of_error}
 use Rattle.tree.specs.Nodes.{Node}
-use Rattle.node_ops.proofs.blocks.read_node.Goals as goal
+use Rattle.node_ops.proofs.node_block.read_node.Goals as goal
 
 verdict_number : (u : Unit {0}) (o : Option Rule) → number_of_error (verdict u o) ≡ number_of_rule o
 verdict_number u None = refl
