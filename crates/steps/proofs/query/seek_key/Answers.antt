@@ -38,7 +38,7 @@ down-preserved g c =
     let C = code_of g.K.Kind.algebra in
     let x = c.down.here in
     let told = c.in-Ok.ensures in
-    let here = c.swap.ensures.x-after in
+    let here = c.swap.ensures.x_after in
     let less = (told.sizes refl).0 in
     let level = ap (λ (y : NodeInMemory). y.level) here in (
       ap (λ (y : NodeInMemory). seek C y.level (image (g.D.Device.meaning c.fetch_child.new.device)) c.args.next_free (view y) c.args.key c.in-Down.deltas (c.down.reads + 1)) here
