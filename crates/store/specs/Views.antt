@@ -20,11 +20,11 @@ abbrev pub first_report : {F : Type 0} → (F → ℕ) → Option (Cause F) → 
 first_report number None = None
 first_report number (Some c) = Some (report number c)
 
-abbrev pub contents : {D K F : Type 0} → Ghosts D F → Store D K F → Contents
-contents D s = record {
-  image = image (D.meaning s.device);
+abbrev pub contents : {D K F : Type 0} → (G : Ghosts D F) → Store D K F G → Contents
+contents G s = record {
+  image = image (G.meaning s.device);
   root = open_root s.stopped (view_root s.workspace.root);
-  first = first_report D.number s.stopped;
+  first = first_report G.number s.stopped;
   figures = record { updates = s.workspace.root.updates; height = s.height; tree_writes = s.workspace.root.tree_writes };
 }
 
