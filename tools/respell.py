@@ -79,6 +79,8 @@ def main():
             if line.startswith("ghost use"):
                 for name in re.findall(r"\bas (" + WORD + r"*-" + WORD + r"*)", line):
                     add(name, p)
+    if not defined:
+        sys.exit("respell: no name is left to turn")
     pattern = re.compile(r"(?<![\w'◌-])(" + "|".join(sorted(map(re.escape, defined), key=len, reverse=True)) + r")(?![\w'◌-])")
 
     aliases = re.compile(r"(?<![\w'-])(" + "|".join(ALIASES) + r")(?![\w'-])")

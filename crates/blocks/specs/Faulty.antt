@@ -1,5 +1,5 @@
 -- What a device for trials means: its bytes cut into blocks, and the states that it was given.
-use Rattle.std.specs.Prelude.{◌≡◌, ℕ, ◌+◌, ◌-◌, ◌*◌, ◌%◌, ◌<◌, ◌≤◌, min, cond, List, length, ◌==◌, nat_lt, slice_index_or}
+use Rattle.std.specs.Prelude.{ℕ, ◌-◌, ◌%◌, min, cond, List, length, ◌==◌, nat_lt, slice_index_or}
 use Rattle.std.proofs.Common.{arith}
 use Rattle.std.proofs.lemmas.Bool.{cond-false, le-ltb}
 use Rattle.blocks.specs.declared.faulty.FaultyDevice.{FaultyDevice}

@@ -1,5 +1,5 @@
 -- What a device of blocks means, and what a read and a write do to it.
-use Rattle.std.specs.Prelude.{◌≡◌, ℕ, ◌+◌, ◌%◌, ◌^◌, ◌<◌, ◌≤◌, Bool, true, false, cond, List, length, Some, None, Ok, Err, Option, Result, ◌==◌, nat_lt}
+use Rattle.std.specs.Prelude.{◌≡◌, ℕ, ◌+◌, ◌%◌, ◌^◌, ◌<◌, ◌≤◌, cond, List, length, Some, None, Ok, Err, Option, Result, ◌==◌, nat_lt}
 use Rattle.blocks.specs.declared.refusal.Refusal.TheVariants.{BadBuffer, NoSuchBlock, Spent as spent, Lost as lost, Damaged as damaged}
 use Rattle.blocks.specs.declared.state.State.{State}
 use Rattle.blocks.specs.declared.state.State.TheVariants.{Sound, Damaged, Lost}

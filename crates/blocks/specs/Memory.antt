@@ -1,5 +1,5 @@
 -- What a device in memory means: its bytes cut into blocks, one after another, all sound.
-use Rattle.std.specs.Prelude.{◌≡◌, ℕ, ◌+◌, ◌*◌, ◌/◌, ◌<◌, ◌≤◌, min, cond, List, length, take, drop, nat_lt}
+use Rattle.std.specs.Prelude.{◌≡◌, ℕ, ◌*◌, ◌/◌, ◌<◌, min, cond, List, length, take, drop, nat_lt}
 use Rattle.std.proofs.Common.{length-take, length-drop, arith}
 use Rattle.std.proofs.lemmas.Bool.{cond-false, le-ltb}
 use Rattle.blocks.specs.declared.state.State.{State}

@@ -13,7 +13,7 @@ use Rattle.tree.specs.Laws.{Keys}
 use Rattle.tree.specs.Nodes.{Node, node, height, next_free}
 use Rattle.tree.specs.Operations.{cut_root, fresh, joined, lower_inner, new_root, upper_inner, with_message}
 use Rattle.tree.specs.Shape.{Tree}
-use Rattle.tree.specs.Update.{grown, raised, update, writes}
+use Rattle.tree.specs.Update.{grown, raised, update}
 use Rattle.tree.proofs.Costs.{costs}
 use Rattle.tree.proofs.Cut as ct
 use Rattle.tree.proofs.Grown.{held}

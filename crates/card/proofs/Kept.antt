@@ -1,11 +1,11 @@
 -- One block more comes to the card.
-use Rattle.std.proofs.Common.{◌≡◌, ℕ, suc, ◌+◌, ◌-◌, ◌%◌, ◌^◌, ◌<◌, ◌≤◌, min, true, false, cond, eqb, ltb, ◌⊎◌, List, [], ◌∷◌, ◌++◌, sym, refl, ap, ◌∙◌, inl, inr, ⊎_elim, add-one, arith}
+use Rattle.std.proofs.Common.{◌≡◌, ℕ, suc, ◌+◌, ◌-◌, ◌%◌, ◌^◌, ◌<◌, ◌≤◌, true, false, eqb, List, [], ◌∷◌, ◌++◌, sym, refl, ap, ◌∙◌, ⊎_elim, add-one, arith}
 use Rattle.std.proofs.lemmas.Bool.{cases_lt, cases_eq, cond-true, cond-false, eq-eqb, ne_eqb, lt-ltb, le-ltb}
 use Rattle.blocks.specs.declared.refusal.Refusal.TheVariants.{NoSuchBlock, Spent}
-use Rattle.blocks.specs.Media.{Medium, change, was_read, was_written}
+use Rattle.blocks.specs.Media.{Medium, was_read, was_written}
 use Rattle.blocks.specs.Memory.{block_of}
 use Rattle.card.specs.declared.outcome.Outcome.{Outcome}
-use Rattle.card.specs.declared.outcome.Outcome.TheVariants.{Kept, Changed, Refused}
+use Rattle.card.specs.declared.outcome.Outcome.TheVariants.{Kept, Refused}
 use Rattle.card.specs.Keeping.{padded, outcome_of, after_keep, outcomes, kept, Keeps}
 
 -- before the first block

@@ -1,6 +1,5 @@
 -- What becomes of an input that is put on a card in memory, block by block.
-use Rattle.std.specs.Prelude.{◌≡◌, ℕ, zero, suc, ◌+◌, ◌-◌, ◌*◌, ◌/◌, ◌%◌, ◌^◌, ◌<◌, ◌≤◌, min, Bool, true, false, cond, List, [], ◌∷◌, ◌++◌, length, replicate, codes, decimal, ◌==◌, nat_lt}
-use Rattle.blocks.specs.declared.refusal.Refusal.{Refusal}
+use Rattle.std.specs.Prelude.{◌≡◌, ℕ, zero, suc, ◌+◌, ◌-◌, ◌/◌, ◌%◌, ◌^◌, ◌<◌, ◌≤◌, min, cond, List, [], ◌∷◌, ◌++◌, length, replicate, codes, decimal, ◌==◌, nat_lt}
 use Rattle.blocks.specs.declared.refusal.Refusal.TheVariants.{NoSuchBlock, Spent}
 use Rattle.blocks.specs.Media.{Medium, block_bytes, was_read, was_written}
 use Rattle.blocks.specs.Memory.{block_of}

@@ -1,23 +1,20 @@
 -- What was read from a block, and the first rule that it breaks.
-use Rattle.std.proofs.Common.{◌≡◌, ℕ, ◌-◌, ◌*◌, Bool, true, false, cond, ◌&&◌, List, [], ◌∷◌, ◌++◌, drop, Some, None, Ok, Err, Option, Result, sym, refl, ap, ◌∙◌, arith}
+use Rattle.std.proofs.Common.{◌≡◌, ℕ, ◌-◌, ◌*◌, Bool, true, false, cond, ◌&&◌, List, [], ◌∷◌, ◌++◌, drop, Some, None, Ok, Err, Option, sym, refl, ap, ◌∙◌, arith}
 use Rattle.std.specs.List.{between}
 use Rattle.std.proofs.lemmas.Bool.{eq-eqb, ne_eqb}
 use Rattle.messages.specs.declared.entry.Entry.{Entry}
 use Rattle.messages.specs.declared.message.Message.{Message}
 use Rattle.rows.specs.Bytes.{all_zero}
-use Rattle.rows.specs.Coding.{number}
 use Rattle.rows.specs.Entries.{record_coding, message_entry_coding}
-use Rattle.rows.specs.Tables.{values_of}
 use Rattle.rules.specs.declared.header.Header.{Header}
 use Rattle.rules.specs.declared.place.Place.{Place}
 use Rattle.rules.specs.declared.rule.Rule.{Rule}
 use Rattle.rules.specs.declared.rule.Rule.TheVariants.{Pivots, ChildNumbers, Keys, Unused}
 use Rattle.nodes.specs.Blocks.{header_of, node_of, pivots_of, children_of, messages_of, records_of}
 use Rattle.nodes.specs.Checks.{leaf_rules, inner_rules, table_rules}
-use Rattle.rules.specs.HeaderRules.{header_rules, unused_zero, verdict}
+use Rattle.rules.specs.HeaderRules.{unused_zero, verdict}
 use Rattle.rules.specs.Keys.{rising, numbers_below, known_row, exact_row, rows_in_order, rows_exact}
 use Rattle.rules.specs.Rules.{first_broken}
-use Rattle.tree.specs.Nodes.{Node}
 
 -- a rule that is broken among the first is the first
 pub first_some : (ts us : List (Bool × Rule)) (r : Rule) → Some r ≡ first_broken ts → Some r ≡ first_broken (ts ++ us)

@@ -9,11 +9,11 @@ use Rattle.rules.specs.declared.mark.Mark.TheVariants.{Closed, InUse}
 use Rattle.rules.specs.declared.place.Place.{Place}
 use Rattle.rules.specs.declared.rule.Rule.{Rule}
 use Rattle.rules.specs.declared.rule.Rule.TheVariants.{Level, Mark as MarkRule, Count, Children, Kind, HeaderNumbers}
-use Rattle.nodes.specs.Blocks.{tables_of, count_of, header_below, node_block, header_of, node_of}
+use Rattle.nodes.specs.Blocks.{tables_of, header_below, node_block, header_of, node_of}
 use Rattle.nodes.specs.Checks.{table_rules, node_fault, root_fault}
 use Rattle.rules.specs.HeaderRules.{header_rules, root_header_rules, root_place, children_fit, root_children_fit, within, verdict}
 use Rattle.rules.specs.Headers.{header_coding}
-use Rattle.nodes.specs.Laws.{Block, FitsPlace, GoodNode, GoodRoot, place_of_root, NodeBlocksRoundTrip, RootBlocksRoundTrip}
+use Rattle.nodes.specs.Laws.{Block, GoodNode, GoodRoot, place_of_root, NodeBlocksRoundTrip, RootBlocksRoundTrip}
 use Rattle.rules.specs.Marks.{mark_of, mark_number}
 use Rattle.nodes.specs.Roots.{Root, root_header, root_block, root_by, root_of}
 use Rattle.rules.specs.Rules.{first_broken}

@@ -1,17 +1,16 @@
 -- The tables of a node and their bytes come back from one another.
-use Rattle.std.proofs.Common.{◌≡◌, ℕ, zero, suc, ◌+◌, ◌-◌, ◌*◌, ◌^◌, ◌<◌, ◌≤◌, Bool, true, false, cond, ◌&&◌, eqb, ltb, leb, List, [], ◌∷◌, ◌++◌, map, length, take, drop, replicate, Some, None, Option, sym, refl, ap, ◌∙◌, subst, ⊎_elim, append_assoc, arith, length-append, length-drop, take-append-drop}
+use Rattle.std.proofs.Common.{◌≡◌, ℕ, zero, suc, ◌+◌, ◌-◌, ◌*◌, ◌<◌, ◌≤◌, Bool, true, false, cond, ◌&&◌, eqb, List, [], ◌∷◌, ◌++◌, map, length, take, drop, replicate, Some, None, sym, refl, ap, ◌∙◌, subst, ⊎_elim, append_assoc, arith, length-append, length-drop, take-append-drop}
 use Rattle.std.specs.List.{between, AllByRecursion as All}
 use Rattle.std.proofs.ByRecursion.{All-take, All-drop}
 use Rattle.std.proofs.lemmas.List.{take_at, drop_at, take_all, drop-drop, length-take-le}
-use Rattle.std.proofs.lemmas.Bool.{and_parts, and_from, eqb-true, leb-true, eq-eqb, ne_eqb, cases_eq}
-use Rattle.messages.specs.declared.entry.Entry.{Entry}
+use Rattle.std.proofs.lemmas.Bool.{and_parts, and_from, eq-eqb, ne_eqb, cases_eq}
 use Rattle.messages.specs.declared.message.Message.{Message}
 use Rattle.messages.specs.declared.message.Message.TheVariants.{Put, Remove, Add}
-use Rattle.rows.specs.Bytes.{Bytes, bytes_of, number_of, all_zero, padded}
+use Rattle.rows.specs.Bytes.{Bytes, all_zero}
 use Rattle.rows.specs.Coding.{Coding, number}
-use Rattle.rows.specs.Entries.{record_coding, message_entry_coding, message_coding, message_number, message_word, number_and_word, known, exact}
+use Rattle.rows.specs.Entries.{record_coding, message_entry_coding}
 use Rattle.rows.specs.Tables.{rows_of, table_of, values_of, all_rows}
-use Rattle.rows.proofs.Tables.{length_rows, length_table, length_values, table_back, table_end, values_back, values_fit, all_rows_pass}
+use Rattle.rows.proofs.Tables.{length_table, length_values, table_back, table_end, values_back, values_fit, all_rows_pass}
 use Rattle.tree.specs.Nodes.{Node}
 use Rattle.rules.specs.declared.header.Header.{Header}
 use Rattle.rules.specs.declared.place.Place.{Place}

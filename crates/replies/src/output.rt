@@ -48,7 +48,7 @@ fn text_of(heap: Global, lines: &[Option<Call>], points: &[Point]) -> Result<Str
                 Reply::to(*call, point.answer)
             }
         };
-        let shown = format!(heap, "{reply}\n")?;
+        let shown = format!(in heap; "{reply}\n")?;
         text.push_str(shown.as_str())?;
     }
     Ok(text)

@@ -67,6 +67,6 @@ pub fn line_for(heap: Global, call: Call) -> Result<Option<String>, AllocError>
         return Ok(None);
     }
     let line = CallLine(call);
-    let text = format!(heap, "{line}")?;
+    let text = format!(in heap; "{line}")?;
     Ok(Some(text))
 }

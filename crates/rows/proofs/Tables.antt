@@ -1,8 +1,8 @@
 -- Tables that are written and read row by row, and both round trips.
-use Rattle.std.proofs.Common.{◌≡◌, ℕ, zero, suc, ◌+◌, ◌-◌, ◌*◌, ◌<◌, ◌≤◌, Bool, true, ◌&&◌, eqb, List, [], ◌∷◌, ◌++◌, length, get_or, take, drop, replicate, sym, refl, ap, ◌∙◌, append_assoc, mul-zero, mul-suc, add-one, arith, length-append, length-drop, take-append-drop}
+use Rattle.std.proofs.Common.{◌≡◌, ℕ, zero, suc, ◌+◌, ◌-◌, ◌*◌, ◌<◌, ◌≤◌, Bool, true, eqb, List, [], ◌∷◌, ◌++◌, length, get_or, take, drop, replicate, sym, refl, ap, ◌∙◌, append_assoc, mul-zero, mul-suc, add-one, arith, length-append, length-drop, take-append-drop}
 use borrow.Rule.Slice.PartMut.{put_mid}
 use lib.ListN.{length-replicate}
-use Rattle.std.specs.List.{flat_map, AllByRecursion as All}
+use Rattle.std.specs.List.{AllByRecursion as All}
 use Rattle.std.proofs.lemmas.Nat.{mul-le}
 use Rattle.std.proofs.ByRecursion.{All-drop}
 use Rattle.std.proofs.lemmas.List.{append-nil, take_more, take_all, take_rest, drop_all, drop_at, flat_map_more, drop-drop}

@@ -1,5 +1,5 @@
 -- Tables: rows of one size behind one another, and zeros to the end.
-use Rattle.std.specs.Prelude.{◌≡◌, ℕ, zero, suc, ◌+◌, ◌*◌, ◌^◌, ◌<◌, ◌≤◌, Bool, true, ◌&&◌, List, [], ◌∷◌, length, take, drop}
+use Rattle.std.specs.Prelude.{◌≡◌, ℕ, zero, suc, ◌*◌, ◌^◌, ◌<◌, ◌≤◌, Bool, true, ◌&&◌, List, [], ◌∷◌, length, drop}
 use Rattle.std.specs.List.{flat_map, AllByRecursion as All}
 use Rattle.rows.specs.Bytes.{Bytes, bytes_of, number_of, padded, all_zero}
 use Rattle.rows.specs.Coding.{Coding}

@@ -9,7 +9,7 @@ use Rattle.plan.specs.Images.{Image, Try, bind}
 use Rattle.plan.specs.Images.Try.{done, stop}
 use Rattle.plan.specs.Pages.{Paged, leaf_paged, page_from}
 use Rattle.plan.specs.Queries.{place_among}
-use Rattle.plan.specs.Steps.{Fetched, fetch_child}
+use Rattle.plan.specs.Steps.{fetch_child}
 use Rattle.plan.specs.declared.report.Report.{Report}
 use Rattle.steps.specs.Pages.{Lowered, lowered_to, lower}
 

@@ -1,5 +1,5 @@
 -- One turn of a query's way down.
-use Rattle.std.proofs.Common.{◌≡◌, ℕ, zero, suc, ◌+◌, ◌-◌, ◌<◌, Option, sym, refl, ap, ◌∙◌, arith}
+use Rattle.std.proofs.Common.{◌≡◌, ℕ, zero, suc, ◌+◌, ◌-◌, ◌<◌, Option, sym, ap, ◌∙◌, arith}
 use Rattle.messages.specs.Lists.{find}
 use Rattle.tree.specs.Nodes.{Node}
 use Rattle.plan.specs.declared.verdict.Verdict.{Verdict}

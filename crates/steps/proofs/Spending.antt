@@ -1,5 +1,5 @@
 -- Counts modulo 2^64 that rise one after another.
-use Rattle.std.proofs.Common.{◌≡◌, ℕ, ◌+◌, ◌%◌, ◌^◌, ◌<◌, ◌≤◌, arith}
+use Rattle.std.proofs.Common.{◌≡◌, ℕ, ◌+◌, ◌%◌, ◌^◌, ◌<◌, arith}
 use Rattle.steps.specs.Allowances.{rise}
 
 pub rise_none : (w : ℕ) → rise w w ≡ 0

@@ -1,16 +1,16 @@
 -- A root that was read and breaks no rule.
-use Rattle.std.proofs.Common.{◌≡◌, ℕ, List, Some, None, Ok, Err, Option, Result, sym, refl, ap, ◌∙◌, subst, arith}
+use Rattle.std.proofs.Common.{◌≡◌, ℕ, List, Some, None, Ok, Option, sym, refl, ap, ◌∙◌, arith}
 use Rattle.node_ops.specs.CodeOf.{number_of_rule}
 use Rattle.nodes.specs.Blocks.{header_of}
 use Rattle.nodes.specs.Checks.{root_fault}
 use Rattle.nodes.specs.Roots.{Root, root_of}
-use Rattle.plan.specs.Images.{Image, Try, bind, load}
+use Rattle.plan.specs.Images.{Image, bind, load}
 use Rattle.plan.specs.Images.Try.{done}
 use Rattle.rules.specs.HeaderRules.{verdict}
 use Rattle.rules.specs.Marks.{mark_of}
 use Rattle.rules.specs.declared.mark.Mark.{Mark}
 use Rattle.rules.specs.declared.rule.Rule.{Rule}
-use Rattle.store_plan.specs.Openings.{Loaded, by_rule, loaded}
+use Rattle.store_plan.specs.Openings.{by_rule, loaded}
 
 -- what was accepted breaks no rule
 accepted : {A : Type 0} (a x : A) (o : Option Rule) → Ok x ≡ verdict a o → (o ≡ None) × (x ≡ a)

@@ -1,12 +1,12 @@
 -- What an update of a laid out store takes of the allowance.
-use Rattle.std.proofs.Common.{◌≡◌, ℕ, ◌+◌, ◌%◌, ◌^◌, ◌≤◌, true, List, is_ok as isOk, Some, None, Ok, Err, Option, Result, sym, refl, ap, ◌∙◌, subst, arith}
+use Rattle.std.proofs.Common.{◌≡◌, ℕ, ◌+◌, ◌%◌, ◌^◌, ◌≤◌, true, List, is_ok as isOk, Some, None, Ok, Err, Option, Result, refl, ap, subst, arith}
 use Rattle.messages.specs.Algebra.{Algebra}
 use Rattle.messages.specs.declared.entry.Entry.{Entry}
 use Rattle.messages.specs.declared.message.Message.{Message}
 use Rattle.nodes.specs.Roots.{Root}
 use Rattle.steps.specs.Allowances.{rise, Spent}
 use Rattle.steps.specs.declared.cause.Cause.{Cause}
-use Rattle.store_laws.specs.Held.{Holds, root_of_tree}
+use Rattle.store_laws.specs.Held.{Holds}
 use Rattle.store_laws.specs.LaidOut.{wear_of}
 use Rattle.store_laws.specs.Laws.{UpdateOutcome}
 use Rattle.store_plan.specs.Contents.{Contents, Called}

@@ -27,7 +27,7 @@ use Rattle.store_plan.specs.Queries.{with_image, found, queried}
 use Rattle.store_plan.specs.Updates.{settled, unless_refused, update_refusal, updated_root, updated_store}
 use Rattle.tree.specs.Nodes.{node, height, next_free}
 use Rattle.tree.specs.Query.{query}
-use Rattle.tree.specs.Update.{update, writes, grown, tree_writes}
+use Rattle.tree.specs.Update.{writes, grown, tree_writes}
 use Rattle.tree.proofs.Grown.{grown_tree}
 use Rattle.tree.proofs.Laws.{map_law, page_law as page_law_of_trees}
 use Rattle.store_laws.specs.Held.{root_of_tree, Holds}

@@ -1,5 +1,5 @@
 -- Formatting a device, opening a store on it and closing it.
-use Rattle.std.specs.Prelude.{ℕ, ◌+◌, ◌*◌, cond, List, Some, None, Option, ◌==◌, nat_lt}
+use Rattle.std.specs.Prelude.{ℕ, cond, List, Some, None, Option, ◌==◌, nat_lt}
 use Rattle.blocks.specs.declared.state.State.{State}
 use Rattle.blocks.specs.declared.state.State.TheVariants.{Sound, Damaged, Lost}
 use Rattle.messages.specs.Algebra.{Algebra}

@@ -4,7 +4,7 @@ use Rattle.messages.specs.Algebra.{Algebra}
 use Rattle.messages.specs.declared.message.Message.{Message}
 use Rattle.node_ops.specs.CodeOf.{code_of}
 use Rattle.nodes.specs.Roots.{Root}
-use Rattle.plan.specs.Images.{Image, Try}
+use Rattle.plan.specs.Images.{Try}
 use Rattle.plan.specs.Images.Try.{done, stop}
 use Rattle.plan.specs.Steps.{Settled, updated}
 use Rattle.store_plan.specs.Refusals.{store_report}

@@ -6,7 +6,7 @@ use Rattle.tree.proofs.Move as mv
 use Rattle.tree.proofs.Split as sp
 use Rattle.tree.proofs.Cut as ct
 use Rattle.messages.specs.Algebra.{Algebra}
-use Rattle.messages.specs.Lists.{below, entry, pending}
+use Rattle.messages.specs.Lists.{below, entry}
 use Rattle.messages.proofs.Places.{below_length}
 use Rattle.messages.specs.declared.entry.Entry.{Entry}
 use Rattle.messages.specs.declared.message.Message.{Message}

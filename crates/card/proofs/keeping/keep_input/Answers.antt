@@ -1,8 +1,6 @@
-use Rattle.std.proofs.Common.{◌≡◌, List, vec_items, sym, ap, ◌∙◌, subst, arith, rules}
-use Rattle.blocks.specs.Media.{Medium}
+use Rattle.std.proofs.Common.{vec_items, ap, ◌∙◌, rules}
 use Rattle.blocks.specs.Memory.{held}
-use Rattle.card.specs.declared.outcome.Outcome.{Outcome}
-use Rattle.card.specs.Keeping.{Keeps, after_keep}
+use Rattle.card.specs.Keeping.{after_keep}
 use Rattle.card.proofs.Kept.{keeps_none, keeps_more}
 use Rattle.card.proofs.keeping.keep_input.Goals as goal
 

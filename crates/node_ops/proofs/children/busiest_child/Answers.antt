@@ -1,7 +1,5 @@
-use Rattle.std.proofs.Common.{◌≡◌, ℕ, suc, ◌+◌, ◌-◌, ◌<◌, List, length, vec_items, vec_len, sym, ap, ◌∙◌, subst, arith, rules}
+use Rattle.std.proofs.Common.{◌≡◌, ℕ, suc, ◌+◌, ◌-◌, ◌<◌, length, vec_items, vec_len, sym, ap, ◌∙◌, subst, arith}
 use Rattle.messages.specs.Lists.{below}
-use Rattle.messages.specs.declared.entry.Entry.{Entry}
-use Rattle.messages.specs.declared.message.Message.{Message}
 use Rattle.nodes.specs.declared.node.Node.{Node as NodeInMemory}
 use Rattle.nodes.specs.Views.{view}
 use Rattle.plan.specs.Steps.{pending_at, child_low, child_high, busiest}

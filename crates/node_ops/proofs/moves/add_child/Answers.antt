@@ -1,4 +1,4 @@
-use Rattle.std.proofs.Common.{◌≡◌, ℕ, suc, ◌+◌, List, ◌∷◌, ◌++◌, vec_items, ap, ◌∙◌, add-one, rules}
+use Rattle.std.proofs.Common.{◌≡◌, ◌+◌, vec_items, ap, ◌∙◌, add-one, rules}
 use Rattle.std.proofs.ResultArms.{chosen}
 use Rattle.tree.specs.Operations.{insert}
 use Rattle.node_ops.proofs.moves.add_child.Goals as goal

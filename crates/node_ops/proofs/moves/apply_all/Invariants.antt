@@ -1,4 +1,4 @@
-use Rattle.std.proofs.Common.{◌≡◌, ◌+◌, ◌≤◌, length, drop, vec_items, vec_len, vec_capacity}
+use Rattle.std.proofs.Common.{◌≡◌, ◌+◌, ◌≤◌, drop, vec_items, vec_len, vec_capacity}
 use Rattle.messages.specs.Lists.{acts_in}
 use Rattle.node_ops.proofs.moves.apply_all.Given as goal
 

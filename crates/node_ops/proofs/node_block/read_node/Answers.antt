@@ -1,4 +1,4 @@
-use Rattle.std.proofs.Common.{◌≡◌, ℕ, Some, None, Option, Result, refl, ap, ◌∙◌, rules}
+use Rattle.std.proofs.Common.{◌≡◌, ℕ, Some, None, Option, refl, ap, ◌∙◌}
 use Rattle.nodes.specs.Checks.{node_fault}
 use Rattle.rules.specs.HeaderRules.{verdict}
 use Rattle.rules.specs.declared.rule.Rule.{Rule}

@@ -1,4 +1,4 @@
-use Rattle.std.proofs.Common.{◌≤◌, length, sym, refl, ap, subst, arith}
+use Rattle.std.proofs.Common.{length, refl, ap, arith}
 use Rattle.node_ops.proofs.Slices.{sliced, sliced_few}
 use Rattle.node_ops.proofs.paging.between.Goals as goal
 

@@ -1,4 +1,4 @@
-use Rattle.std.proofs.Common.{◌-◌, length, take, drop, vec_items, refl, ap, ◌∙◌, arith}
+use Rattle.std.proofs.Common.{◌-◌, length, take, drop, vec_items, ap, ◌∙◌, arith}
 use Rattle.messages.specs.Lists.{below}
 use Rattle.node_ops.proofs.Slices.{run_kept}
 use Rattle.node_ops.proofs.paging.keep_between.Goals as goal

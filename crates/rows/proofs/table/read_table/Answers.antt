@@ -1,4 +1,4 @@
-use Rattle.std.proofs.Common.{◌≡◌, vec_items, ◌∙◌, arith}
+use Rattle.std.proofs.Common.{vec_items, ◌∙◌, arith}
 use Rattle.rows.proofs.Tables.{read_more, rest_more, row_left}
 use Rattle.rows.proofs.table.read_table.Goals as goal
 

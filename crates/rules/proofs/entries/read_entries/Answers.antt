@@ -1,4 +1,4 @@
-use Rattle.std.proofs.Common.{◌≡◌, ◌-◌, ◌&&◌, vec_items, sym, refl, ap, ◌∙◌, arith}
+use Rattle.std.proofs.Common.{◌≡◌, ◌-◌, ◌&&◌, vec_items, ap, ◌∙◌, arith}
 use Rattle.rows.specs.Bytes.{all_zero}
 use Rattle.rows.specs.Tables.{all_rows}
 use Rattle.rows.proofs.Tables.{read_more, rest_more, row_left}

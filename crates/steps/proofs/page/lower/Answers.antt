@@ -1,4 +1,4 @@
-use Rattle.std.proofs.Common.{◌≡◌, ◌<◌, vec_items, sym, refl, ap, ◌∙◌, arith, rules}
+use Rattle.std.proofs.Common.{◌<◌, vec_items, refl, ap, ◌∙◌, arith, rules}
 use Rattle.node_ops.specs.CodeOf.{code_of}
 use Rattle.nodes.specs.Views.{view}
 use Rattle.plan.specs.Images.{image, bind}

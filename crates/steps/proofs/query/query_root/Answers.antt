@@ -1,4 +1,4 @@
-use Rattle.std.proofs.Common.{◌≡◌, None, sym, refl, ap, ◌∙◌, arith, rules}
+use Rattle.std.proofs.Common.{None, refl, ap, ◌∙◌, rules}
 use Rattle.node_ops.specs.CodeOf.{code_of}
 use Rattle.nodes.specs.Views.{view}
 use Rattle.plan.specs.Images.{image}

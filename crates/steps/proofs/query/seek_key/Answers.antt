@@ -1,4 +1,4 @@
-use Rattle.std.proofs.Common.{◌≡◌, ℕ, ◌+◌, sym, refl, ap, ◌∙◌, arith, rules}
+use Rattle.std.proofs.Common.{◌≡◌, ◌+◌, refl, ap, ◌∙◌, arith, rules}
 use Rattle.node_ops.specs.CodeOf.{code_of}
 use Rattle.nodes.specs.declared.node.Node.{Node as NodeInMemory}
 use Rattle.nodes.specs.Views.{view}

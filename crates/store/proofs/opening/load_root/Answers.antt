@@ -1,9 +1,8 @@
-use Rattle.std.proofs.Common.{◌≡◌, ℕ, refl, ap, ◌∙◌, rules}
+use Rattle.std.proofs.Common.{ℕ, refl, ap, ◌∙◌, rules}
 use Rattle.nodes.specs.Blocks.{header_of}
 use Rattle.nodes.specs.Checks.{root_fault}
 use Rattle.nodes.specs.Roots.{view_root}
-use Rattle.plan.specs.Images.{image, load}
-use Rattle.plan.specs.Images.Try.{done}
+use Rattle.plan.specs.Images.{image}
 use Rattle.rules.specs.HeaderRules.{verdict}
 use Rattle.rules.specs.Marks.{mark_of}
 use Rattle.store.proofs.Loading.{loads}

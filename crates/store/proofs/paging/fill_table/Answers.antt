@@ -1,4 +1,3 @@
-use Rattle.std.proofs.Common.{arith}
 use Rattle.store_plan.specs.Pages.{no_entry}
 use Rattle.store.proofs.Tables.{table_filled}
 use Rattle.store.proofs.paging.fill_table.Goals as goal

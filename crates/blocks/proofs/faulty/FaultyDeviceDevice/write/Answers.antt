@@ -1,5 +1,4 @@
-use Rattle.std.proofs.Common.{◌≡◌, ◌<◌, refl, arith, rules}
-use Rattle.std.proofs.lemmas.Bool.Decides.{nat_tests}
+use Rattle.std.proofs.Common.{◌<◌, refl, arith, rules}
 use Rattle.blocks.specs.Faulty.{faulty_size}
 use Rattle.blocks.proofs.Written.{faulty_written}
 use Rattle.blocks.proofs.faulty.FaultyDeviceDevice.write.Goals as goal

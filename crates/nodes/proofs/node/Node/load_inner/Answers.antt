@@ -1,4 +1,4 @@
-use Rattle.std.proofs.Common.{◌≡◌, ◌-◌, vec_items, ◌∙◌, arith, rules}
+use Rattle.std.proofs.Common.{◌≡◌, vec_items, ◌∙◌, arith, rules}
 use Rattle.nodes.specs.Blocks.{pivots_of, children_of}
 use Rattle.nodes.proofs.Loaded.{inner_fault, inner_node, read_from_none}
 use Rattle.nodes.proofs.node.Node.load_inner.Goals as goal

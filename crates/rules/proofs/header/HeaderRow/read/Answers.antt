@@ -1,4 +1,3 @@
-use Rattle.std.proofs.Common.{◌≡◌}
 use Rattle.std.proofs.lemmas.List.{take_rest, drop-drop}
 use Rattle.rules.proofs.header.HeaderRow.read.Goals as goal
 
