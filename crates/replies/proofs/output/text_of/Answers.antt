@@ -31,11 +31,11 @@ loop-line-preserved c =
     let turn = at_turn (λ (l : List (Option Call)). text_of (replies_to l (drop j ps))) None xs i t (text_of (replies_to xs ps)) c.loop-line-test.true c.loop-line.invariant in
     let e : replies_to (o ∷ ls) (drop j ps) ≡ c.match-line.reply ∷ replies_to ls (drop c.match-line.next ps) =
     elim c.match-line.branch [
-      | in-None w ↦ rw (w.reply-is, w.next_is) (bad_first o ls (drop j ps) w.in-None.is)
+      | in-None w ↦ rw (w.reply-is, w.next-is) (bad_first o ls (drop j ps) w.in-None.is)
       | in-Some+in-Some-get w ↦
           let p = w.in-Some-get.point.now in
           let found = w.in-Some-get.ensures.lookup in
-          rw (w.reply-is, w.next_is, w.to-reply.ensures) (good_first o w.in-Some.call ls p (drop j ps) (drop (j + 1) ps) w.in-Some.is (drop_at ps j p found.3.0 found.1))
+          rw (w.reply-is, w.next-is, w.to-reply.ensures) (good_first o w.in-Some.call ls p (drop j ps) (drop (j + 1) ps) w.in-Some.is (drop_at ps j p found.3.0 found.1))
     ] in
     printed t (string_bytes c.push_str.new.self) (string_bytes c.in_ok-shown.shown) c.as_str.result.now (replies_to (o ∷ ls) (drop j ps)) (replies_to ls (drop c.match-line.next ps)) c.match-line.reply (text_of (replies_to xs ps)) turn e
     c.in_ok-shown.ensures.ok c.as_str.ensures.value c.in_ok-push_str.ensures.bytes
