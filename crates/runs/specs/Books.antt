@@ -6,6 +6,6 @@ use Rattle.traces.specs.Views.View.{closed, opened}
 use Rattle.runs.specs.declared.turn.Book.{Book}
 use Rattle.runs.specs.declared.turn.Book.TheVariants.{Closed, Open}
 
-abbrev pub view : {S D F G : Type 0} → Ghosts S F → Ghosts D G → Book S D F G → View
-view S D (Closed b) = closed (S.meaning b.stock) (D.meaning b.day)
-view S D (Open b) = opened (contents S b.stock) (S.meaning b.stock.device).allowance (contents D b.day) (D.meaning b.day.device).allowance
+abbrev pub view : {S D F G : Type 0} → (stock : Ghosts S F) → (day : Ghosts D G) → Book S D F G stock day → View
+view stock day (Closed b) = closed (stock.meaning b.stock) (day.meaning b.day)
+view stock day (Open b) = opened (contents stock b.stock) (stock.meaning b.stock.device).allowance (contents day b.day) (day.meaning b.day.device).allowance

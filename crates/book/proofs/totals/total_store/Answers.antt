@@ -26,7 +26,7 @@ pages-preserved g c =
     let few : page.reads < 2 ^ 32 = search rules in
     let long : length table ≡ length c.pages.table = c.page_store.auto.table in
     let fits : SFits w64 t.sum = search rules in
-    let small : SFits w64 c.add_words.result = record { sfits = c.add_words.type-inv } in
+    let small : SFits w64 c.add_words.result = record { sfits = c.add_words.type_inv } in
     let sum = summed t table page.entries page.reads c.from.result c.add_words.result (omega (arith, at.fits, long)) fits small c.add_words.ensures c.from.ensures in
     let left = suc c.args.high - (t.pages + 1) in (
       ap (λ s. total_from left (contents g.S.Device c.page_store.new.store) c.args.high table s c.in-Some.key) sum
@@ -61,7 +61,7 @@ returns-in-None g c =
     let table = c.page_store.new.table in
     let long : length table ≡ length c.pages.table = c.page_store.auto.table in
     let fits : SFits w64 t.sum = search rules in
-    let small : SFits w64 c.add_words.result = record { sfits = c.add_words.type-inv } in
+    let small : SFits w64 c.add_words.result = record { sfits = c.add_words.type_inv } in
     let sum = summed t table page.entries page.reads c.from.result c.add_words.result (omega (arith, at.fits, long)) fits small c.add_words.ensures c.from.ensures in
     record {
       value = (λ i. record { answer = Ok (sum i); stock = contents g.S.Device c.page_store.new.store; table = table })

@@ -23,6 +23,6 @@ returns g c =
     new.0 new.1 back.0 back.1 c.args.calls.now _
     (traced (S c.new-book.result.stock) (D c.new-book.result.day) (S before.stock) (D before.day)
     (g.S.Device.sane c.new-book.result.stock) (g.D.Device.sane c.new-book.result.day)
-    (record { book_is = sym formatted.value; stock_allowance = formatted.stock-lowered; day_allowance = formatted.day-lowered })
+    (record { book_is = sym formatted.value; stock_allowance = formatted.stock_lowered; day_allowance = formatted.day_lowered })
     c.args.calls.now (vec_items c.play-book.new.trace) _ (view g.S.Device g.D.Device c.play-book.result) (S c.end-book.result.stock) (D c.end-book.result.day)
     played.calls played.went c.end-book.ensures)
