@@ -1,5 +1,5 @@
 -- One page of a total, and what follows it.
-use Rattle.std.proofs.Common.{◌≡◌, ℕ, suc, ◌+◌, ◌-◌, ◌%◌, ◌^◌, ◌≤◌, List, length, take, ℤ, Some, None, Ok, Err, Result, sym, refl, ap, ◌∙◌, arith, length-take, w64, SFits, to_z, of_z}
+use Rattle.std.proofs.Common.{◌≡◌, ℕ, suc, ◌+◌, ◌-◌, ◌%◌, ◌^◌, ◌≤◌, List, length, take, ℤ, Some, None, Ok, Err, Result, sym, ap, ◌∙◌, arith, length-take, w64, SFits, to_z, of_z}
 use Rattle.std.proofs.lemmas.Int.{to_z-of_z}
 use Rattle.messages.specs.Quantity.{quantity_algebra}
 use Rattle.messages.specs.Words.{signed, word}

@@ -1,31 +1,27 @@
 -- Changes and queries of a book that keeps its changes.
-use Rattle.std.proofs.Common.{◌≡◌, ℕ, ◌+◌, ◌%◌, ◌^◌, ◌<◌, ◌≤◌, List, ◌∷◌, Some, None, Ok, Err, Option, unwrap_or, sym, refl, ap, ◌∙◌, subst, arith}
+use Rattle.std.proofs.Common.{◌≡◌, ℕ, ◌^◌, ◌<◌, List, Some, None, Ok, Option, sym, refl, ap, ◌∙◌, subst, arith}
 use Rattle.messages.specs.Algebra.{Algebra}
 use Rattle.messages.specs.LatestDay.{latest_day_algebra}
 use Rattle.messages.specs.Quantity.{quantity_algebra}
 use Rattle.messages.specs.Words.{signed}
-use Rattle.messages.specs.declared.entry.Entry.{Entry}
-use Rattle.messages.specs.declared.message.Message.{Message}
 use Rattle.bridge.specs.Work.{Work}
 use Rattle.plan.specs.Images.{Image}
 use Rattle.store_laws.specs.Held.{root_of_tree}
 use Rattle.store_laws.specs.Laws as store
 use Rattle.store_laws.proofs.Laws as store_proofs
 use Rattle.store_plan.specs.Contents.{Contents, Called}
-use Rattle.store_plan.specs.Contents.Answer.{accepted}
 use Rattle.store_plan.specs.Queries.{queried}
 use Rattle.store_plan.specs.Updates.{update_refusal, update_check, updated_store, by_refusal}
 use Rattle.store_plan.specs.declared.refusal.StoreRefusal.{StoreRefusal}
 use Rattle.tree.specs.Laws.{meaning}
 use Rattle.tree.specs.Lookup.{said}
-use Rattle.tree.specs.Nodes.{height}
 use Rattle.tree.specs.Query.{query}
 use Rattle.tree.specs.Update.{grown}
 use Rattle.tree.proofs.Laws.{sum_law}
 use Rattle.calls.specs.declared.part.Part.TheVariants.{Stock, Day}
 use Rattle.calls.specs.declared.refusal.Refusal.{Refusal}
 use Rattle.book_plan.specs.Books.{CalledBook, unless_refused, or_else, barred, first_refusal, conditions, day_next, both_updated, stock_found, day_found, queried_book}
-use Rattle.book_plan.specs.Changes.{Change, quantity_of, day_of, holding, holding_of}
+use Rattle.book_plan.specs.Changes.{Change, quantity_of, day_of, holding}
 use Rattle.book_plan.specs.Kept.{Keeps, sheet_of, stock_message, day_message, stock_messages, day_messages, value_refusal, changed, InRange}
 use Rattle.book_plan.specs.Laws.{of_part, change_refusal, ChangeKept, ChangeOutcome, ChangeLaw, QueryKept, QueryLaw}
 use Rattle.book_plan.specs.Told.{told, stopped_part}

@@ -1,13 +1,13 @@
 -- The messages that changes give to the stores say what the changes say.
-use Rattle.std.proofs.Common.{◌≡◌, ℕ, ◌+◌, ◌%◌, ◌^◌, ◌<◌, ◌≤◌, max, Bool, true, false, cond, eqb, leb, List, [], ◌∷◌, length, ℤ, pos, negsuc, nat_abs, Some, None, Option, sym, refl, ap, ◌∙◌, arith}
+use Rattle.std.proofs.Common.{◌≡◌, ℕ, ◌^◌, ◌<◌, ◌≤◌, Bool, true, false, cond, eqb, leb, List, [], ◌∷◌, length, ℤ, pos, negsuc, nat_abs, Some, None, Option, refl, ap, ◌∙◌, arith}
 use Rattle.std.proofs.lemmas.Int.{ints}
 use Rattle.std.proofs.lemmas.Bool.{leb-true, and_parts}
 use Rattle.messages.specs.LatestDay.{latest_day_algebra}
 use Rattle.messages.specs.Messages.{effect}
 use Rattle.messages.specs.Words.{signed, word}
-use Rattle.messages.specs.declared.message.Message.TheVariants.{Put, Remove, Add}
+use Rattle.messages.specs.declared.message.Message.TheVariants.{Add}
 use Rattle.bridge.specs.Stored.{WordFits}
-use Rattle.tree.specs.Laws.{Amount, Amounts, number_said, numbered}
+use Rattle.tree.specs.Laws.{Amounts, number_said, numbered}
 use Rattle.tree.specs.Lookup.{said}
 use Rattle.calls.specs.declared.refusal.Refusal.{Refusal}
 use Rattle.book_plan.specs.Books.{most_amount, last_day, bad_value}

@@ -1,5 +1,5 @@
 -- A total of a book that keeps its changes.
-use Rattle.std.proofs.Common.{◌≡◌, ℕ, zero, suc, ◌+◌, ◌-◌, ◌*◌, ◌%◌, ◌^◌, ◌<◌, ◌≤◌, true, false, cond, eqb, ltb, List, [], ◌∷◌, ◌++◌, length, take, replicate, ℤ, pos, ◌+ℤ◌, Some, None, Ok, Err, Option, sym, refl, ap, ◌∙◌, subst, ⊎_elim, add-mul, mul-le-mul_left, arith, length-append, w64}
+use Rattle.std.proofs.Common.{◌≡◌, ℕ, zero, suc, ◌+◌, ◌-◌, ◌*◌, ◌%◌, ◌^◌, ◌<◌, ◌≤◌, true, false, cond, eqb, ltb, List, [], ◌∷◌, ◌++◌, length, take, replicate, ℤ, ◌+ℤ◌, Some, None, Ok, Err, Option, sym, refl, ap, ◌∙◌, subst, ⊎_elim, add-mul, mul-le-mul_left, arith, length-append, w64}
 use lib.ListN.{length-replicate}
 use Rattle.std.proofs.lemmas.List.{take_at, append-nil}
 use Rattle.std.proofs.lemmas.Int.{of_z-to_z}
@@ -17,11 +17,9 @@ use Rattle.store_laws.specs.Held.{Holds}
 use Rattle.store_laws.specs.Laws.{PageGiven, PageRefused, PageOutcome}
 use Rattle.store_laws.proofs.Laws.{page_law}
 use Rattle.store_plan.specs.Contents.{Contents}
-use Rattle.store_plan.specs.Contents.Answer.{refused}
-use Rattle.store_plan.specs.Pages.{PagedStore, no_entry, filled, page_refusal, paged_store}
+use Rattle.store_plan.specs.Pages.{PagedStore, no_entry, page_refusal, paged_store}
 use Rattle.store_plan.specs.Refusals.{store_report}
 use Rattle.store_plan.specs.declared.refusal.StoreRefusal.{StoreRefusal}
-use Rattle.store_plan.specs.declared.refusal.StoreRefusal.TheVariants.{EmptyRange, ShortPage}
 use Rattle.tree.specs.Laws.{meaning, sum_of_words, sum_of_numbers}
 use Rattle.tree.specs.Lookup.{said}
 use Rattle.tree.specs.Nodes.{Node, height}
@@ -34,10 +32,10 @@ use Rattle.tree.proofs.Total.{all_pages}
 use Rattle.calls.specs.declared.answer.Sum.{Sum}
 use Rattle.calls.specs.declared.part.Part.TheVariants.{Stock}
 use Rattle.calls.specs.declared.refusal.Refusal.TheVariants.{Met}
-use Rattle.book_plan.specs.Changes.{Change, quantity_of}
+use Rattle.book_plan.specs.Changes.{Change}
 use Rattle.book_plan.specs.Kept.{Keeps, stock_messages}
 use Rattle.book_plan.specs.Laws.{TotalKept, TotalRefused, TotalOutcome, TotalLaw}
-use Rattle.book_plan.specs.Sums.{SumOf, sum_of_quantities}
+use Rattle.book_plan.specs.Sums.{sum_of_quantities}
 use Rattle.book_plan.specs.Told.{told, stopped_part}
 use Rattle.book_plan.specs.Totals.{nothing, with_page, Totalled, by_next, after_page, total_from, unless_stopped, totalled}
 use Rattle.book_plan.proofs.Plain.{amounts, quantities}

@@ -1,5 +1,5 @@
 -- What each call of a book does, by what its two stores are known by: its answer, and what they are known by then.
-use Rattle.std.specs.Prelude.{ℕ, ◌+◌, ◌*◌, cond, ◌&&◌, List, ℤ, Some, None, Ok, Err, Option, Result, nat_le, unsigned_abs}
+use Rattle.std.specs.Prelude.{ℕ, ◌*◌, cond, ◌&&◌, ℤ, Some, None, Ok, Err, Option, Result, nat_le, unsigned_abs}
 use Rattle.std.specs.Option.{unwrap_or}
 use Rattle.messages.specs.LatestDay.{latest_day_algebra}
 use Rattle.messages.specs.Quantity.{quantity_algebra}
@@ -16,7 +16,6 @@ use Rattle.store_plan.specs.Updates.{update_check, updated_store}
 use Rattle.store_plan.specs.declared.figures.Figures.{Figures}
 use Rattle.store_plan.specs.declared.refusal.StoreRefusal.{StoreRefusal}
 use Rattle.calls.specs.declared.answer.Found.{Found}
-use Rattle.calls.specs.declared.answer.Holding.{Holding}
 use Rattle.calls.specs.declared.part.Part.{Part}
 use Rattle.calls.specs.declared.part.Part.TheVariants.{Stock, Day}
 use Rattle.calls.specs.declared.refusal.Refusal.{Refusal}

@@ -1,5 +1,5 @@
 -- The changes that a book accepts, and what they say of each sheet: the plain map from sheet to quantity and latest day.
-use Rattle.std.specs.Prelude.{ℕ, ◌^◌, ◌<◌, ◌≤◌, max, cond, List, [], ◌∷◌, ℤ, ◌+ℤ◌, Some, None, Option, ◌==◌}
+use Rattle.std.specs.Prelude.{ℕ, max, cond, List, [], ◌∷◌, ℤ, ◌+ℤ◌, Some, None, Option, ◌==◌}
 use Rattle.std.specs.Option.{unwrap_or}
 use Rattle.calls.specs.declared.answer.Holding.{Holding}
 

@@ -1,5 +1,5 @@
 -- What it means that a book keeps the changes that it has accepted.
-use Rattle.std.specs.Prelude.{ℕ, ◌^◌, ◌<◌, ◌≤◌, List, [], ◌∷◌, ℤ, Some, None, Option, unsigned_abs}
+use Rattle.std.specs.Prelude.{ℕ, ◌≤◌, List, [], ◌∷◌, None, Option, unsigned_abs}
 use Rattle.messages.specs.LatestDay.{latest_day_algebra}
 use Rattle.messages.specs.Lists.{entry}
 use Rattle.messages.specs.Quantity.{quantity_algebra}
@@ -7,8 +7,7 @@ use Rattle.messages.specs.Words.{word}
 use Rattle.messages.specs.declared.entry.Entry.{Entry}
 use Rattle.messages.specs.declared.message.Message.{Message}
 use Rattle.messages.specs.declared.message.Message.TheVariants.{Put, Remove, Add}
-use Rattle.plan.specs.Images.{Image}
-use Rattle.store_laws.specs.Held.{Holds, Rests}
+use Rattle.store_laws.specs.Held.{Holds}
 use Rattle.store_plan.specs.Contents.{Contents}
 use Rattle.calls.specs.declared.refusal.Refusal.{Refusal}
 use Rattle.book_plan.specs.Books.{CalledBook, most_amount, last_day, bad_value, updated_book}

@@ -11,7 +11,6 @@ use Rattle.store_plan.specs.Refusals.{store_report}
 use Rattle.store_plan.specs.Updates.{update_refusal}
 use Rattle.store_plan.specs.declared.refusal.StoreRefusal.{StoreRefusal}
 use Rattle.tree.specs.Nodes.{height, next_free}
-use Rattle.tree.specs.Query.{query}
 use Rattle.tree.specs.Update.{update, writes, batches, grown}
 use Rattle.calls.specs.declared.answer.Found.{Found}
 use Rattle.calls.specs.declared.answer.Sum.{Sum}

@@ -1,5 +1,5 @@
 -- What is read off a store: whether it stands, its figures, and its device's own counts.
-use Rattle.std.specs.Prelude.{Bool, true, false, is_some, Option}
+use Rattle.std.specs.Prelude.{Bool, false, is_some, Option}
 use Rattle.blocks.specs.Media.{Medium}
 use Rattle.nodes.specs.Roots.{Root}
 use Rattle.store_plan.specs.Contents.{Contents}

@@ -5,7 +5,7 @@ use Rattle.messages.specs.Words.{signed, word}
 use Rattle.messages.specs.declared.entry.Entry.{Entry}
 use Rattle.tree.specs.Laws.{sum_of_words}
 use Rattle.store_plan.specs.Contents.{Contents}
-use Rattle.store_plan.specs.Pages.{PagedStore, paged_store}
+use Rattle.store_plan.specs.Pages.{paged_store}
 use Rattle.store_plan.specs.declared.page.Page.{Page}
 use Rattle.calls.specs.declared.answer.Sum.{Sum}
 use Rattle.calls.specs.declared.part.Part.TheVariants.{Stock}

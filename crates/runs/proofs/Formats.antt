@@ -17,7 +17,7 @@ use Rattle.traces.specs.Steps.{Went}
 use Rattle.traces.specs.Views.{View}
 use Rattle.traces.specs.Views.View.{closed}
 use Rattle.traces.proofs.Laws.{trace_law}
-use Rattle.runs.specs.Ends.{ClosedBy, Ended, Unfit}
+use Rattle.runs.specs.Ends.{Ended, Unfit}
 use Rattle.runs.proofs.Went.{went_more, called_more}
 
 module _ (d e : Image) (a b : ℕ) (y : Refusal) (d' e' : Image) where

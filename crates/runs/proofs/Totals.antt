@@ -4,7 +4,6 @@ use Rattle.messages.specs.declared.entry.Entry.{Entry}
 use Rattle.store_plan.specs.Contents.{Contents}
 use Rattle.store_plan.specs.Pages.{table_length}
 use Rattle.calls.specs.declared.answer.Sum.{Sum}
-use Rattle.calls.specs.declared.call.Call.{Call}
 use Rattle.calls.specs.declared.call.Call.TheVariants.{Total}
 use Rattle.calls.specs.declared.point.Point.{Point}
 use Rattle.calls.specs.declared.refusal.Refusal.{Refusal}

@@ -1,6 +1,5 @@
 -- A trace that is longer by one point.
-use Rattle.std.proofs.Common.{◌≡◌, List, [], ◌∷◌, ◌++◌, map, sym, refl, ap, ◌∙◌, subst}
-use Rattle.calls.specs.declared.call.Call.{Call}
+use Rattle.std.proofs.Common.{◌≡◌, List, [], ◌∷◌, ◌++◌, sym, refl, ap, subst}
 use Rattle.calls.specs.declared.point.Point.{Point}
 use Rattle.traces.specs.Runs.{called}
 use Rattle.traces.specs.Steps.{Made, Went}

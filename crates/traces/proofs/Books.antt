@@ -1,25 +1,24 @@
 -- What a book keeps from call to call.
-use Rattle.std.proofs.Common.{◌≡◌, ℕ, suc, ◌+◌, ◌-◌, ◌*◌, ◌%◌, ◌^◌, ◌<◌, ◌≤◌, Bool, true, false, cond, eqb, ltb, ◌⊎◌, List, [], ◌∷◌, ◌++◌, length, Some, None, Ok, Err, Option, Result, sym, refl, ap, ◌∙◌, subst, inl, inr, ⊎_elim, append_assoc, arith}
+use Rattle.std.proofs.Common.{◌≡◌, ℕ, suc, ◌+◌, ◌*◌, ◌^◌, ◌<◌, ◌≤◌, ◌⊎◌, List, [], ◌∷◌, ◌++◌, Some, None, Err, Option, sym, refl, ap, ◌∙◌, subst, inl, inr, ⊎_elim, append_assoc, arith}
 use Rattle.std.proofs.lemmas.List.{append-nil}
 use Rattle.std.proofs.lemmas.Bool.Decides.{nat_tests}
-use Rattle.blocks.specs.Media.{Medium, Lowered}
+use Rattle.blocks.specs.Media.{Medium}
 use Rattle.messages.specs.Algebra.{Algebra}
 use Rattle.messages.specs.LatestDay.{latest_day_algebra}
 use Rattle.messages.specs.Quantity.{quantity_algebra}
 use Rattle.messages.specs.declared.entry.Entry.{Entry}
 use Rattle.nodes.specs.Roots.{Root}
-use Rattle.plan.specs.Images.{Image, image}
+use Rattle.plan.specs.Images.{image}
 use Rattle.bridge.specs.Work.{Work}
-use Rattle.store_laws.specs.Held.{Holds, root_of_tree}
+use Rattle.store_laws.specs.Held.{root_of_tree}
 use Rattle.store_plan.specs.Contents.{Contents}
-use Rattle.store_plan.specs.Openings.{opened as opened_store, opening, closed as closed_store}
+use Rattle.store_plan.specs.Openings.{opened as opened_store, opening}
 use Rattle.store_plan.specs.Queries.{queried as queried_store}
 use Rattle.store_plan.specs.Refusals.{store_report}
 use Rattle.store_plan.specs.Updates.{update_refusal}
 use Rattle.store_plan.specs.declared.refusal.StoreRefusal.{StoreRefusal}
-use Rattle.tree.specs.Update.{grown, tree_writes, writes}
 use Rattle.calls.specs.declared.answer.Answer.{Answer}
-use Rattle.calls.specs.declared.answer.Answer.TheVariants.{NotMade, Opened, Done, Refused, Found as found_answer, Total as total_answer, Figures as figures_answer, Closed}
+use Rattle.calls.specs.declared.answer.Answer.TheVariants.{NotMade, Opened, Refused, Figures as figures_answer}
 use Rattle.calls.specs.declared.answer.Found.{Found}
 use Rattle.calls.specs.declared.call.Call.{Call}
 use Rattle.calls.specs.declared.call.Call.TheVariants.{Open as open_call, Booking, Count, Strike, Query, Total, Figures, Close}
@@ -32,7 +31,7 @@ use Rattle.book_plan.specs.Books.{CalledBook, unless_refused, or_else, barred, c
 use Rattle.book_plan.specs.Changes.{Change}
 use Rattle.book_plan.specs.Changes.Change.{booking, count, strike}
 use Rattle.book_plan.specs.Kept.{Keeps, AllInRange, sheet_of, stock_message, day_message, stock_messages, day_messages, value_refusal, changed}
-use Rattle.book_plan.specs.Laws.{of_part, change_refusal, ChangeKept, ChangeOutcome, QueryKept, TotalOutcome}
+use Rattle.book_plan.specs.Laws.{of_part, change_refusal, ChangeKept, ChangeOutcome, TotalOutcome}
 use Rattle.book_plan.specs.Told.{told, stopped_part}
 use Rattle.book_plan.specs.Totals.{Totalled, nothing, total_from, unless_stopped, totalled}
 use Rattle.book_plan.proofs.Laws.{change_law, barred_is, query_law, no_work}
@@ -42,7 +41,7 @@ use Rattle.traces.specs.Steps.{Opens, Changes, Asks, Shows, Closes, Stays, Falls
 use Rattle.book_plan.specs.Readings.{stands}
 use Rattle.traces.specs.Views.{View}
 use Rattle.traces.specs.Views.View.{closed, opened}
-use Rattle.traces.proofs.Stores.{Resting, Open, Stopped, Kept, WritesSo, opening_kept, closing_kept}
+use Rattle.traces.proofs.Stores.{Resting, Open, Kept, opening_kept, closing_kept}
 
 abbrev pub Q : Algebra
 Q = quantity_algebra

@@ -1,5 +1,5 @@
 -- The law of every trace of calls on a book that was formatted on sound devices.
-use Rattle.std.proofs.Common.{◌≡◌, ℕ, ◌+◌, ◌*◌, ◌%◌, ◌^◌, ◌<◌, ◌≤◌, Bool, true, false, ◌⊎◌, List, [], ◌∷◌, ◌++◌, length, Some, None, Ok, Err, Option, Result, sym, refl, ap, ◌∙◌, subst, inl, inr, ⊎_elim, append_assoc, arith}
+use Rattle.std.proofs.Common.{◌≡◌, ℕ, ◌*◌, ◌^◌, ◌<◌, ◌≤◌, true, List, [], ◌∷◌, ◌++◌, length, Some, None, Ok, Err, Option, Result, sym, refl, ap, ◌∙◌, subst, inl, inr, ⊎_elim, append_assoc, arith}
 use mathlib.Core.Bool.{false≢true}
 use Rattle.std.proofs.lemmas.List.{append-nil}
 use Rattle.std.proofs.lemmas.Bool.Decides.{nat_tests}
@@ -15,37 +15,32 @@ use Rattle.store_plan.specs.Contents.{Contents}
 use Rattle.store_plan.specs.Openings.{format_refusal, format_writes, formatted}
 use Rattle.store_plan.specs.declared.figures.Figures.{Figures}
 use Rattle.store_plan.specs.declared.refusal.StoreRefusal.{StoreRefusal}
-use Rattle.tree.specs.Nodes.{height}
-use Rattle.tree.specs.Update.{grown}
-use Rattle.calls.specs.declared.answer.Answer.{Answer}
-use Rattle.calls.specs.declared.answer.Answer.TheVariants.{NotMade, Opened, Done, Refused, Found as found_answer, Total as total_answer, Figures as figures_answer, Closed}
+use Rattle.calls.specs.declared.answer.Answer.TheVariants.{Found as found_answer, Total as total_answer, Figures as figures_answer}
 use Rattle.calls.specs.declared.answer.Found.{Found}
 use Rattle.calls.specs.declared.answer.Sum.{Sum}
-use Rattle.calls.specs.declared.call.Call.{Call}
-use Rattle.calls.specs.declared.call.Call.TheVariants.{Open as open_call, Booking, Count, Strike, Query, Total, Figures as figures_call, Close}
+use Rattle.calls.specs.declared.call.Call.TheVariants.{Query, Total, Figures as figures_call}
 use Rattle.calls.specs.declared.part.Part.{Part}
 use Rattle.calls.specs.declared.part.Part.TheVariants.{Stock, Day}
 use Rattle.calls.specs.declared.point.Point.{Point}
 use Rattle.calls.specs.declared.point.Reading.{Reading}
 use Rattle.calls.specs.declared.refusal.Refusal.{Refusal}
-use Rattle.book_plan.specs.Books.{FormattedBook, unless_unfit, both_formatted, day_formatted, figures_of_part, queried_book}
-use Rattle.book_plan.specs.Changes.{Change, holding_of}
+use Rattle.book_plan.specs.Books.{FormattedBook, unless_unfit, both_formatted, day_formatted, queried_book}
+use Rattle.book_plan.specs.Changes.{Change}
 use Rattle.book_plan.specs.Kept.{stock_messages, day_messages}
 use Rattle.book_plan.specs.Laws.{QueryKept, TotalKept, TotalOutcome}
 use Rattle.book_plan.specs.Sums.{SumOf}
-use Rattle.book_plan.specs.Told.{stopped_part}
 use Rattle.book_plan.specs.Totals.{Totalled, totalled}
 use Rattle.book_plan.proofs.Laws.{query_law}
 use Rattle.book_plan.proofs.Plain.{stock_count, day_count}
 use Rattle.book_plan.proofs.Totals.{total_law}
-use Rattle.traces.specs.Law.{of, reading, counted, opening_of, closing_of, changes, Worn, Stands, upto, WearLaw, Plain, AnswerLaw, CountedReads, ReadLaw, Law}
+use Rattle.traces.specs.Law.{of, reading, counted, opening_of, closing_of, changes, Worn, Stands, Plain, CountedReads, Law}
 use Rattle.traces.specs.Runs.{Formats, TraceLaw}
-use Rattle.traces.specs.Steps.{Asks, AddsUp, Shows, Stays, Does, Made, Went, query_answer, sum_answer}
+use Rattle.traces.specs.Steps.{Does, Made, Went, query_answer, sum_answer}
 use Rattle.book_plan.specs.Readings.{stands, reading_of}
 use Rattle.traces.specs.Views.{View, stock_reading, day_reading}
 use Rattle.traces.specs.Views.View.{closed, opened}
-use Rattle.traces.proofs.Books.{Q, D, Tally, tally, more, tally_more, Inv, BothOpen, keeps, Refuses, open_or_stopped, query_refused, total_refused, step_kept}
-use Rattle.traces.proofs.Stores.{Resting, Open, Stopped, Kept, worn}
+use Rattle.traces.proofs.Books.{Q, D, Tally, tally, tally_more, Inv, keeps, Refuses, open_or_stopped, query_refused, total_refused, step_kept}
+use Rattle.traces.proofs.Stores.{Resting, worn}
 
 module _ (stock_start day_start : ℕ) where
   abbrev KeptSo : List Point → View → Type 0

@@ -1,25 +1,23 @@
 -- What a store of a book keeps from call to call: the tree of its messages, and the count of its device's writes.
-use Rattle.std.proofs.Common.{◌≡◌, ℕ, ◌+◌, ◌-◌, ◌*◌, ◌%◌, ◌^◌, ◌<◌, ◌≤◌, Bool, true, false, cond, eqb, ltb, ◌⊎◌, List, [], ◌∷◌, length, Some, None, Option, sym, refl, ap, ◌∙◌, subst, inl, inr, ⊎_elim, arith}
+use Rattle.std.proofs.Common.{◌≡◌, ℕ, ◌+◌, ◌-◌, ◌*◌, ◌%◌, ◌^◌, ◌<◌, ◌≤◌, eqb, ltb, ◌⊎◌, List, length, Some, None, sym, refl, ap, ◌∙◌, subst, inl, inr, ⊎_elim, arith}
 use Rattle.std.proofs.lemmas.Bool.{cases_lt, lt-ltb, ne_eqb, cond-true, cond-false}
 use Rattle.blocks.specs.Media.{Medium, Lowered}
 use Rattle.messages.specs.Algebra.{Algebra}
 use Rattle.messages.specs.declared.entry.Entry.{Entry}
 use Rattle.messages.specs.declared.message.Message.{Message}
-use Rattle.plan.specs.Images.{Image, Try, bind, image}
-use Rattle.plan.specs.Images.Try.{done, stop}
+use Rattle.plan.specs.Images.{Image, Try, image}
+use Rattle.plan.specs.Images.Try.{stop}
 use Rattle.plan.specs.declared.report.Report.{Report}
-use Rattle.store_laws.specs.Held.{Holds, Rests, root_of_tree}
-use Rattle.store_laws.specs.Laws.{StandsAgain, AtRest}
+use Rattle.store_laws.specs.Held.{Holds, Rests}
 use Rattle.store_laws.proofs.Openings.{open_law, stands_again, close_law}
 use Rattle.store_plan.specs.Contents.{Contents}
-use Rattle.store_plan.specs.Openings.{Opened, loaded, by_kind, opened, opening, closed}
+use Rattle.store_plan.specs.Openings.{Opened, opened, opening, closed}
 use Rattle.store_plan.specs.Refusals.{store_report}
-use Rattle.store_plan.specs.declared.refusal.StoreRefusal.TheVariants.{NoSuchBlock, Spent}
+use Rattle.store_plan.specs.declared.refusal.StoreRefusal.TheVariants.{Spent}
 use Rattle.tree.specs.Nodes.{height}
 use Rattle.tree.specs.Update.{grown, tree_writes}
 use Rattle.tree.proofs.Shapes.{good_trees}
 use Rattle.tree.proofs.Grown.{wear}
-use Rattle.calls.specs.declared.point.Reading.{Reading}
 use Rattle.traces.specs.Law.{Worn, one_if, one_if_none}
 use Rattle.book_plan.specs.Readings.{stands, reading_of}
 

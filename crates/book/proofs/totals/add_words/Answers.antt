@@ -1,4 +1,4 @@
-use Rattle.std.proofs.Common.{◌≡◌, ◌+◌, ◌%◌, ◌^◌, ◌<◌, get_or, sym, ap, ◌∙◌, take_all, w64, to_z, of_z, rules}
+use Rattle.std.proofs.Common.{◌+◌, ◌%◌, ◌^◌, ◌<◌, get_or, ap, ◌∙◌, take_all, w64, to_z, of_z, rules}
 use Rattle.std.proofs.lemmas.Int.{to_z-of_z}
 use Rattle.messages.specs.Words.{signed, word}
 use Rattle.store_plan.specs.Pages.{no_entry}

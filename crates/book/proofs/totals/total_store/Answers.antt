@@ -1,4 +1,4 @@
-use Rattle.std.proofs.Common.{◌≡◌, ℕ, suc, ◌+◌, ◌-◌, ◌^◌, ◌<◌, ◌≤◌, length, take, Ok, Err, sym, refl, ap, ◌∙◌, arith, w64, SFits, rules}
+use Rattle.std.proofs.Common.{◌≡◌, suc, ◌+◌, ◌-◌, ◌^◌, ◌<◌, length, take, Ok, Err, refl, ap, ◌∙◌, arith, w64, SFits, rules}
 use Rattle.store.specs.Views.{contents}
 use Rattle.book_plan.specs.Totals.{nothing, with_page, total_from}
 use Rattle.book.proofs.Paging.{summed, no_pages, refused_page, last_page, next_page}

@@ -1,4 +1,4 @@
-use Rattle.std.proofs.Common.{◌≡◌, vec_items, sym, ap, ◌∙◌, subst, arith, take_all, rules}
+use Rattle.std.proofs.Common.{vec_items, ◌∙◌, take_all, rules}
 use Rattle.std.proofs.lemmas.List.{take_more}
 use Rattle.calls.specs.declared.call.Call.TheVariants.{Open}
 use Rattle.runs.proofs.Went.{went_more, called_more}

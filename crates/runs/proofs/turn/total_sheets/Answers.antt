@@ -1,5 +1,4 @@
-use Rattle.std.proofs.Common.{ap, ◌∙◌}
-use Rattle.traces.specs.Steps.{sum_answer}
+use Rattle.std.proofs.Common.{◌∙◌}
 use Rattle.runs.proofs.Totals.{made_total}
 use Rattle.runs.proofs.turn.total_sheets.Goals as goal
 
