@@ -3,7 +3,7 @@ use Rattle.std.proofs.Common.{ℕ, zero, suc, ◌^◌, ◌<◌, eqb, ltb, List, 
 use Prim.{Unit}
 use Rattle.std.proofs.ByRecursion.{All-append, All-take, All-drop}
 use Rattle.std.proofs.lemmas.Bool.{cond_both}
-use Rattle.std.specs.List.{AllByRecursion as All}
+use Rattle.std.specs.List.{AllByRecursion}
 use Rattle.messages.specs.Algebra.{Algebra}
 use Rattle.messages.specs.Lists.{below, batch, join_in, joins, put_first, act_in, acts_in}
 use Rattle.messages.specs.Messages.{effect, fold}
@@ -15,10 +15,10 @@ use Rattle.tree.specs.Operations.{with_message, lower_inner, upper_inner, lower_
 use Rattle.bridge.specs.Stored.{WordFits, WordsFit}
 
 abbrev MessagesFit : List (Entry Message) → Type 0
-MessagesFit xs = All (λ e. WordFits e.value) xs
+MessagesFit xs = AllByRecursion (λ e. WordFits e.value) xs
 
 abbrev RecordsFit : List (Entry ℕ) → Type 0
-RecordsFit xs = All (λ e. e.value < 2 ^ 64) xs
+RecordsFit xs = AllByRecursion (λ e. e.value < 2 ^ 64) xs
 
 -- ---- messages
 fold_fits : (K : Algebra) (held m : Message) → WordFits held → WordFits m → WordFits (fold K held m)

@@ -1,7 +1,7 @@
 -- What it means that blocks hold the nodes of a tree.
 use Rattle.std.specs.Prelude.{◌≡◌, ℕ, ◌^◌, ◌<◌, ◌≤◌, List, None}
 use Prim.{Unit}
-use Rattle.std.specs.List.{AllByRecursion as All}
+use Rattle.std.specs.List.{AllByRecursion}
 use Rattle.blocks.specs.Media.{most_blocks}
 use Rattle.messages.specs.declared.message.Message.{Message}
 use Rattle.messages.specs.declared.message.Message.TheVariants.{Put, Remove, Add}
@@ -22,8 +22,8 @@ WordFits (Add d) = d < 2 ^ 64
 
 -- the words of a node fit 64 bits
 pub record WordsFit (x : Node) : Type 0 where
-  pub messages_fit : All (λ e. WordFits e.value) x.messages
-  pub records_fit : All (λ e. e.value < 2 ^ 64) x.records
+  pub messages_fit : AllByRecursion (λ e. WordFits e.value) x.messages
+  pub records_fit : AllByRecursion (λ e. e.value < 2 ^ 64) x.records
 
 -- a node below the root that breaks no rule, and whose numbers fit their widths
 pub record FitsBlock (a : List Node) (b : ℕ) : Type 0 where

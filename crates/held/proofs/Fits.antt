@@ -1,6 +1,6 @@
 -- A node of a tree whose numbers fit breaks no rule of the format at its place.
 use Rattle.std.proofs.Common.{◌≡◌, ℕ, ◌^◌, ◌<◌, ◌≤◌, true, false, cond, eqb, List, length, refl, ap, arith}
-use Rattle.std.specs.List.{AllByRecursion as All}
+use Rattle.std.specs.List.{AllByRecursion}
 use Rattle.std.proofs.ByRecursion.{All-from_get_or, All-weaker}
 use Rattle.std.proofs.lemmas.Bool.{and_from, eq-eqb, eqb-true, eqb-false, le-leb, lt-ltb}
 use Rattle.messages.specs.Algebra.{Algebra}
@@ -33,13 +33,13 @@ module _ (a : List Node) (b : ℕ) (f : FitsBlock a b) where
             and_from _ _ (le-leb 4 n (g.inner_children f.below_root (omega (arith, above)))) (le-leb n 8 g.few_children)
       ] refl
 
-  taken : All (λ c. (1 ≤ c) × (c < next_free a)) (node a b).frame.children
+  taken : AllByRecursion (λ c. (1 ≤ c) × (c < next_free a)) (node a b).frame.children
   taken =
       let g = f.breaks_no_rule in
       All-from_get_or (λ c. (1 ≤ c) × (c < next_free a)) (node a b).frame.children 0
       (λ j inside. ((g.children_good j inside).not_root, (g.children_good j inside).taken))
 
-  numbers_fit : All (λ c. (number 4).fits c ≡ true) (node a b).frame.children
+  numbers_fit : AllByRecursion (λ c. (number 4).fits c ≡ true) (node a b).frame.children
   numbers_fit =
       All-weaker (λ c. (1 ≤ c) × (c < next_free a)) (λ c. (number 4).fits c ≡ true)
       (λ c t. let small : c < 256 ^ 4 = omega (arith, t.1, f.numbers_fit) in lt-ltb c (256 ^ 4) small) (node a b).frame.children taken

@@ -1,6 +1,6 @@
 -- The tables of a node of a tree pass the tests of the format.
 use Rattle.std.proofs.Common.{◌≡◌, ℕ, suc, ◌^◌, ◌<◌, ◌≤◌, true, List, [], ◌∷◌, map, refl, arith}
-use Rattle.std.specs.List.{AllByRecursion as All}
+use Rattle.std.specs.List.{AllByRecursion}
 use Rattle.std.proofs.lemmas.Bool.{and_from, le-leb, lt-ltb}
 use Rattle.messages.specs.Lists.{Within}
 use Rattle.messages.specs.declared.entry.Entry.{Entry}
@@ -19,7 +19,7 @@ keys_rise low high (x ∷ xs) w =
     and_from _ _ (le-leb low x.key w.0) (and_from _ _ (lt-ltb x.key high w.1) (keys_rise (suc x.key) high xs w.2))
 
 -- an entry fits its row if its key is below 2 ^ 32 and its value fits
-pub entries_fit : {V : Type 0} (c : Coding V) (P : V → Type 0) → ((v : V) → P v → c.fits v ≡ true) → (low high : ℕ) (xs : List (Entry V)) → high ≤ 2 ^ 32 → Within low high xs → All (λ e. P e.value) xs → All (λ e. (entry_coding c).fits e ≡ true) xs
+pub entries_fit : {V : Type 0} (c : Coding V) (P : V → Type 0) → ((v : V) → P v → c.fits v ≡ true) → (low high : ℕ) (xs : List (Entry V)) → high ≤ 2 ^ 32 → Within low high xs → AllByRecursion (λ e. P e.value) xs → AllByRecursion (λ e. (entry_coding c).fits e ≡ true) xs
 entries_fit c P fits low high [] top w all = tt
 entries_fit c P fits low high (x ∷ xs) top w all =
     let key : x.key < 256 ^ 4 = omega (arith, top, w.1) in
@@ -37,13 +37,13 @@ pivots_rise from low high (p ∷ ps) le r =
     let least : from ≤ p = omega (arith, le, r.0) in
     and_from _ _ (le-leb from p least) (and_from _ _ (lt-ltb p high r.1) (pivots_rise (suc p) p high ps (omega arith) r.2))
 
-pub pivots_fit : (low high : ℕ) (ps : List ℕ) → high ≤ 2 ^ 32 → Rising low high ps → All (λ n. (number 4).fits n ≡ true) ps
+pub pivots_fit : (low high : ℕ) (ps : List ℕ) → high ≤ 2 ^ 32 → Rising low high ps → AllByRecursion (λ n. (number 4).fits n ≡ true) ps
 pivots_fit low high [] top r = tt
 pivots_fit low high (p ∷ ps) top r =
     let small : p < 256 ^ 4 = omega (arith, top, r.1) in
     (lt-ltb p (256 ^ 4) small, pivots_fit p high ps top r.2)
 
 -- ---- child numbers
-pub all_below : (limit : ℕ) (cs : List ℕ) → All (λ c. (1 ≤ c) × (c < limit)) cs → numbers_below limit cs ≡ true
+pub all_below : (limit : ℕ) (cs : List ℕ) → AllByRecursion (λ c. (1 ≤ c) × (c < limit)) cs → numbers_below limit cs ≡ true
 all_below limit [] all = refl
 all_below limit (c ∷ cs) all = and_from _ _ (le-leb 1 c all.0.0) (and_from _ _ (lt-ltb c limit all.0.1) (all_below limit cs all.1))

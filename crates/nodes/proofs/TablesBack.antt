@@ -1,6 +1,6 @@
 -- The tables of a node and their bytes come back from one another.
 use Rattle.std.proofs.Common.{◌≡◌, ℕ, zero, suc, ◌+◌, ◌-◌, ◌*◌, ◌<◌, ◌≤◌, Bool, true, false, cond, ◌&&◌, eqb, List, [], ◌∷◌, ◌++◌, map, length, take, drop, replicate, Some, None, sym, refl, ap, ◌∙◌, subst, ⊎_elim, append_assoc, arith, length-append, length-drop, take-append-drop}
-use Rattle.std.specs.List.{between, AllByRecursion as All}
+use Rattle.std.specs.List.{between, AllByRecursion}
 use Rattle.std.proofs.ByRecursion.{All-take, All-drop}
 use Rattle.std.proofs.lemmas.List.{take_at, drop_at, take_all, drop-drop, length-take-le}
 use Rattle.std.proofs.lemmas.Bool.{and_parts, and_from, eq-eqb, ne_eqb, cases_eq}
@@ -28,10 +28,10 @@ part_at : (a b c : List ℕ) (i n : ℕ) → length a ≡ i → length b ≡ n �
 part_at a b c i n ea eb = ap (take n) (drop_at a (b ++ c) i ea) ∙ take_at b c n eb
 
 -- no rule is broken: every test passed
-pub all_passed : (ts : List (Bool × Rule)) → first_broken ts ≡ None → All (λ t. t.0 ≡ true) ts
+pub all_passed : (ts : List (Bool × Rule)) → first_broken ts ≡ None → AllByRecursion (λ t. t.0 ≡ true) ts
 all_passed [] = λ e. tt
 all_passed (t ∷ ts) =
-    elim t.0 as (λ v. cond v (first_broken ts) (Some t.1) ≡ None → (v ≡ true) × All (λ u. u.0 ≡ true) ts)
+    elim t.0 as (λ v. cond v (first_broken ts) (Some t.1) ≡ None → (v ≡ true) × AllByRecursion (λ u. u.0 ≡ true) ts)
     [ true ↦ λ e. (refl, all_passed ts e) | false ↦ λ e. let z : ◌≡◌ {A = ℕ} 0 1 = cc in absurd (omega arith) ]
 
 -- every row passes a test that all pass

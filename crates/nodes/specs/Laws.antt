@@ -1,6 +1,6 @@
 -- Blocks and nodes come back from one another.
 use Rattle.std.specs.Prelude.{◌≡◌, ℕ, ◌+◌, ◌^◌, ◌<◌, ◌≤◌, true, List, [], map, length, None}
-use Rattle.std.specs.List.{AllByRecursion as All}
+use Rattle.std.specs.List.{AllByRecursion}
 use Rattle.rows.specs.Bytes.{Bytes}
 use Rattle.rows.specs.Coding.{number}
 use Rattle.rows.specs.Entries.{record_coding, message_entry_coding}
@@ -36,10 +36,10 @@ pub record FitsPlace (p : Place) (x : Node) : Type 0 where
   pub messages_rise : rising p.low p.high (map (λ e. e.key) x.messages) ≡ true
   pub records_rise : rising p.low p.high (map (λ e. e.key) x.records) ≡ true
   -- numbers fit their width
-  pub pivots_fit : All (λ n. (number 4).fits n ≡ true) x.frame.pivots
-  pub children_fit : All (λ n. (number 4).fits n ≡ true) x.frame.children
-  pub messages_fit : All (λ e. message_entry_coding.fits e ≡ true) x.messages
-  pub records_fit : All (λ e. record_coding.fits e ≡ true) x.records
+  pub pivots_fit : AllByRecursion (λ n. (number 4).fits n ≡ true) x.frame.pivots
+  pub children_fit : AllByRecursion (λ n. (number 4).fits n ≡ true) x.frame.children
+  pub messages_fit : AllByRecursion (λ e. message_entry_coding.fits e ≡ true) x.messages
+  pub records_fit : AllByRecursion (λ e. record_coding.fits e ≡ true) x.records
 
 -- a node below the root that breaks no rule at a place
 pub record GoodNode (p : Place) (x : Node) : Type 0 where

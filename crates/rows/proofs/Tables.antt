@@ -2,7 +2,7 @@
 use Rattle.std.proofs.Common.{◌≡◌, ℕ, zero, suc, ◌+◌, ◌-◌, ◌*◌, ◌<◌, ◌≤◌, Bool, true, eqb, List, [], ◌∷◌, ◌++◌, length, get_or, take, drop, replicate, sym, refl, ap, ◌∙◌, append_assoc, mul-zero, mul-suc, add-one, arith, length-append, length-drop, take-append-drop}
 use borrow.Rule.Slice.PartMut.{put_mid}
 use lib.ListN.{length-replicate}
-use Rattle.std.specs.List.{AllByRecursion as All}
+use Rattle.std.specs.List.{AllByRecursion}
 use Rattle.std.proofs.lemmas.Nat.{mul-le}
 use Rattle.std.proofs.ByRecursion.{All-drop}
 use Rattle.std.proofs.lemmas.List.{append-nil, take_more, take_all, take_rest, drop_all, drop_at, flat_map_more, drop-drop}
@@ -78,7 +78,7 @@ module _ {X : Type 0} (c : Coding X) where
   pub rest_more : (bs rest : List ℕ) (i : ℕ) → rest ≡ drop (c.size * i) bs → drop c.size rest ≡ drop (c.size * (i + 1)) bs
   rest_more bs rest i left = rw (add-one, mul-suc) (ap (drop c.size) left ∙ drop-drop c.size (c.size * i) bs)
 
-  pub values_back : (xs : List X) (more : List ℕ) → All (λ x. c.fits x ≡ true) xs → values_of c (length xs) (rows_of c xs ++ more) ≡ xs
+  pub values_back : (xs : List X) (more : List ℕ) → AllByRecursion (λ x. c.fits x ≡ true) xs → values_of c (length xs) (rows_of c xs ++ more) ≡ xs
   values_back [] more h = refl
   values_back (x ∷ xs) more h =
       let all = append_assoc (c.encode x) (rows_of c xs) more in
@@ -112,7 +112,7 @@ module _ {X : Type 0} (c : Coding X) where
   table_end n xs = ap all_zero (drop_at (rows_of c xs) (replicate (n - length (rows_of c xs)) 0) (c.size * length xs) (length_rows xs)) ∙ all_zero_zeros (n - length (rows_of c xs))
 
   -- a test that each encoding passes is passed by each row of a table
-  pub all_rows_pass : (test : List ℕ → Bool) → ((x : X) (more : List ℕ) → c.fits x ≡ true → test (c.encode x ++ more) ≡ true) → (xs : List X) (more : List ℕ) → All (λ x. c.fits x ≡ true) xs → all_rows test c.size (length xs) (rows_of c xs ++ more) ≡ true
+  pub all_rows_pass : (test : List ℕ → Bool) → ((x : X) (more : List ℕ) → c.fits x ≡ true → test (c.encode x ++ more) ≡ true) → (xs : List X) (more : List ℕ) → AllByRecursion (λ x. c.fits x ≡ true) xs → all_rows test c.size (length xs) (rows_of c xs ++ more) ≡ true
   all_rows_pass test pass [] more h = refl
   all_rows_pass test pass (x ∷ xs) more h =
       let all = append_assoc (c.encode x) (rows_of c xs) more in
@@ -120,7 +120,7 @@ module _ {X : Type 0} (c : Coding X) where
       and_from _ _ (ap test all ∙ pass x (rows_of c xs ++ more) h.0) (ap (all_rows test c.size (length xs)) left ∙ all_rows_pass test pass xs more h.1)
 
   -- the values of rows fit
-  pub values_fit : (n : ℕ) (bs : List ℕ) → Bytes bs → All (λ x. c.fits x ≡ true) (values_of c n bs)
+  pub values_fit : (n : ℕ) (bs : List ℕ) → Bytes bs → AllByRecursion (λ x. c.fits x ≡ true) (values_of c n bs)
   values_fit zero bs bytes = tt
   values_fit (suc n) bs bytes = (c.decode_fits bs bytes, values_fit n (drop c.size bs) (All-drop (λ b. b < 256) c.size bs bytes))
 

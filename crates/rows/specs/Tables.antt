@@ -1,6 +1,6 @@
 -- Tables: rows of one size behind one another, and zeros to the end.
 use Rattle.std.specs.Prelude.{◌≡◌, ℕ, zero, suc, ◌*◌, ◌^◌, ◌<◌, ◌≤◌, Bool, true, ◌&&◌, List, [], ◌∷◌, length, drop}
-use Rattle.std.specs.List.{flat_map, AllByRecursion as All}
+use Rattle.std.specs.List.{flat_map, AllByRecursion}
 use Rattle.rows.specs.Bytes.{Bytes, bytes_of, number_of, padded, all_zero}
 use Rattle.rows.specs.Coding.{Coding}
 
@@ -29,5 +29,5 @@ pub record NumbersRoundTrip : Type 0 where
 
 -- values come back from their table, and a table of valid rows and zeros from its values
 pub record TablesRoundTrip {X : Type 0} (c : Coding X) : Type 0 where
-  pub values_back : (n : ℕ) (xs : List X) → All (λ x. c.fits x ≡ true) xs → values_of c (length xs) (table_of c n xs) ≡ xs
+  pub values_back : (n : ℕ) (xs : List X) → AllByRecursion (λ x. c.fits x ≡ true) xs → values_of c (length xs) (table_of c n xs) ≡ xs
   pub table_back : (n : ℕ) (bs : List ℕ) → c.size * n ≤ length bs → Bytes bs → all_rows c.valid c.size n bs ≡ true → all_zero (drop (c.size * n) bs) ≡ true → table_of c (length bs) (values_of c n bs) ≡ bs

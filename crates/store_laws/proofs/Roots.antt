@@ -1,6 +1,6 @@
 -- The root of a tree breaks no rule of the format.
 use Rattle.std.proofs.Common.{◌≡◌, ℕ, ◌^◌, ◌<◌, ◌≤◌, true, false, cond, eqb, List, length, refl, subst₂, arith}
-use Rattle.std.specs.List.{AllByRecursion as All}
+use Rattle.std.specs.List.{AllByRecursion}
 use Rattle.std.proofs.ByRecursion.{All-from_get_or, All-weaker}
 use Rattle.std.proofs.lemmas.Bool.{and_from, eqb-false, le-leb, lt-ltb}
 use Rattle.messages.specs.Algebra.{Algebra}
@@ -45,12 +45,12 @@ module _ (K : Algebra) (h : List (Entry Message)) (ks : Keys h) (d : Image) (st 
       elim (eqb (height a) 0) as (λ v. cond v (length (node a 0).records) (length (node a 0).messages) ≤ 256)
       [ true ↦ good.few_records | false ↦ good.few_messages ]
 
-  taken : All (λ c. (1 ≤ c) × (c < next_free a)) (node a 0).frame.children
+  taken : AllByRecursion (λ c. (1 ≤ c) × (c < next_free a)) (node a 0).frame.children
   taken =
       All-from_get_or (λ c. (1 ≤ c) × (c < next_free a)) (node a 0).frame.children 0
       (λ j inside. ((good.children_good j inside).not_root, (good.children_good j inside).taken))
 
-  numbers_fit : All (λ c. (number 4).fits c ≡ true) (node a 0).frame.children
+  numbers_fit : AllByRecursion (λ c. (number 4).fits c ≡ true) (node a 0).frame.children
   numbers_fit =
       All-weaker (λ c. (1 ≤ c) × (c < next_free a)) (λ c. (number 4).fits c ≡ true)
       (λ c t. let small : c < 256 ^ 4 = omega (arith, t.1, on.blocks, on.size_fits) in lt-ltb c (256 ^ 4) small) (node a 0).frame.children taken

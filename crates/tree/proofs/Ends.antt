@@ -1,6 +1,6 @@
 -- The bounds that follow from what is kept.
 use Rattle.std.proofs.Common.{◌≡◌, ℕ, zero, suc, ◌+◌, ◌-◌, ◌*◌, ◌^◌, ◌<◌, ◌≤◌, ◌≢◌, List, [], ◌∷◌, length, get_or, refl, ap, ◌∙◌, mul-le-mul_left, arith}
-use Rattle.std.specs.List.{AllByRecursion as All}
+use Rattle.std.specs.List.{AllByRecursion}
 use Rattle.tree.proofs.Wear.{Shape, State, Worn, bulk, bulk_of, children_at, children_of, height, inner, inner_of, one_at, same, shape, total}
 use Rattle.tree.proofs.Sums.{total_le, total_same, total_one}
 use Rattle.tree.proofs.Keeps.{Inv, Full, Tail}
@@ -29,12 +29,12 @@ scaled a f [] = omega arith
 scaled a f (x ∷ xs) = let e = scaled a f xs in omega arith
 
 -- every node but the root is full
-full_all : (xs : List Shape) → All Full xs → 4 * total inner xs ≤ total children_of xs
+full_all : (xs : List Shape) → AllByRecursion Full xs → 4 * total inner xs ≤ total children_of xs
 unfolding total
 full_all [] a = omega arith
 full_all (x ∷ xs) a = let e = full_all xs a.1 in omega (arith, a.0)
 
-full_at : (k : ℕ) (xs : List Shape) → All Full xs → 4 * total (one_at (suc k)) xs ≤ total (children_at (suc k)) xs
+full_at : (k : ℕ) (xs : List Shape) → AllByRecursion Full xs → 4 * total (one_at (suc k)) xs ≤ total (children_at (suc k)) xs
 unfolding total
 full_at k [] a = omega arith
 full_at k (x ∷ xs) a = let e = full_at k xs a.1 in omega (arith, go x.level x.children a.0)

@@ -1,6 +1,6 @@
 -- What every counted step keeps.
 use Rattle.std.proofs.Common.{◌≡◌, ℕ, zero, suc, ◌+◌, ◌-◌, ◌*◌, ◌<◌, ◌≤◌, ◌≢◌, ◌⊎◌, List, [], ◌∷◌, ◌++◌, length, get_or, set, sym, refl, ap, ◌∙◌, subst, inl, inr, ⊎_elim, mul-le-mul_left, arith, length-append, length-set}
-use Rattle.std.specs.List.{AllByRecursion as All}
+use Rattle.std.specs.List.{AllByRecursion}
 use Rattle.std.proofs.ByRecursion.{All-append, All-set, All-get_or}
 use Rattle.std.proofs.lemmas.List.{append-nil}
 use Rattle.tree.proofs.Wear.{Pair, Shape, State, Step, after_cut, after_join, after_move, after_split, at, bulk, bulk_of, children_at, children_of, height, inner, inner_of, one_at, same, shape, start, total, weight}
@@ -14,7 +14,7 @@ Full n = 4 * inner n ≤ n.children
 -- so have all but the root
 abbrev pub Tail : List Shape → Type 0
 Tail [] = Unit {0}
-Tail (r ∷ xs) = All Full xs
+Tail (r ∷ xs) = AllByRecursion Full xs
 
 -- what every step keeps, for the height h and q children of the root
 pub record Keeps (h q : ℕ) (s : State) : Type 0 where
@@ -83,7 +83,7 @@ root_set : (xs : List Shape) (y : Shape) → 0 < length xs → get_or (set xs 0 
 root_set [] y h = absurd (omega arith)
 root_set (x ∷ xs) y h = refl
 
-tail_one : (xs : List Shape) (y : Shape) (zs : List Shape) → 0 < length xs → Tail xs → All Full zs → Tail (set xs 0 y ++ zs)
+tail_one : (xs : List Shape) (y : Shape) (zs : List Shape) → 0 < length xs → Tail xs → AllByRecursion Full zs → Tail (set xs 0 y ++ zs)
 tail_one [] y zs h t a = absurd (omega arith)
 tail_one (x ∷ xs) y zs h t a = All-append Full xs zs t a
 
@@ -93,7 +93,7 @@ tail_set (x ∷ xs) y t = t
 
 -- p is the root, or it is full as all others
 tail_two : (xs : List Shape) (p c : ℕ) (x y : Shape) (zs : List Shape) → 0 < length xs → p < length xs → 0 < c → Tail xs
-    → (Full (get_or xs p (shape 0 0 0)) → Full x) → Full y → All Full zs → Tail (set (set xs p x) c y ++ zs)
+    → (Full (get_or xs p (shape 0 0 0)) → Full x) → Full y → AllByRecursion Full zs → Tail (set (set xs p x) c y ++ zs)
 tail_two [] p c x y zs h hp hc t fx fy fz = absurd (omega arith)
 tail_two (r ∷ xs) p zero x y zs h hp hc t fx fy fz = absurd (omega arith)
 tail_two (r ∷ xs) zero (suc c) x y zs h hp hc t fx fy fz = All-append Full (set xs c y) zs (All-set Full xs c y fy t) fz
