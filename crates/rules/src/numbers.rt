@@ -1,5 +1,5 @@
 // Tests on keys, and on the pivots and child numbers of a node.
-ghost use Rattle.std.specs.Prelude.{◌≡◌, ◌&&◌, ltb, nat_le, nat_lt};
+ghost use Rattle.std.specs.Prelude.{◌≡◌, ◌&&◌, nat_le, nat_lt};
 ghost use Rattle.rules.specs.Keys.{rising, numbers_below};
 
 // Whether a key lies from `low` on and below `high`.
@@ -11,7 +11,7 @@ pub fn is_inside(key: u64, low: u64, high: u64) -> bool
 
 // Whether a child's block number is at least 1 and below the next free number.
 fn is_taken(number: u32, next_free: u32) -> bool
-    ensures { result ≡ (nat_le 1 number && ltb number next_free) }
+    ensures { result ≡ (nat_le 1 number && nat_lt number next_free) }
 {
     1 <= number && number < next_free
 }

@@ -1,5 +1,5 @@
 -- The shape of a tree: the rules that each node has to meet, and how the nodes hang together.
-use Rattle.std.specs.Prelude.{◌≡◌, ℕ, zero, suc, ◌+◌, ◌^◌, ◌<◌, ◌≤◌, List, [], ◌∷◌, length, get_or, slice_index, slice_index_or}
+use Rattle.std.specs.Prelude.{◌≡◌, ℕ, zero, suc, ◌+◌, ◌^◌, ◌<◌, ◌≤◌, List, [], ◌∷◌, length, slice_index, slice_index_or}
 use Rattle.messages.specs.Lists.{Within}
 use Rattle.tree.specs.Limits.{most_entries, most_children, fewest_children}
 use Rattle.tree.specs.Nodes.{Frame, Node, node, height}
@@ -12,7 +12,7 @@ Rising low high (p ∷ ps) = (low < p) × (p < high) × Rising p high ps
 -- the child at a place: a block that was taken, not the root, one level lower, with its part of the span
 pub record GoodChild (a : List Node) (f : Frame) (j : ℕ) : Type 0 where
   pub not_root : 1 ≤ slice_index f.children j
-  pub taken : get_or f.children j 0 < length a
+  pub taken : slice_index f.children j < length a
   pub one_lower : (node a (slice_index f.children j)).frame.level + 1 ≡ f.level
   pub from : (node a (slice_index f.children j)).frame.low ≡ slice_index (f.low ∷ f.pivots) j
   pub upto : (node a (slice_index f.children j)).frame.high ≡ slice_index_or f.pivots j f.high
