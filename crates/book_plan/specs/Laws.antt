@@ -32,10 +32,10 @@ of_part part (Some r) = Some (Met part (store_report r))
 -- when a change is refused, by the changes before it, the sizes of the devices and the writes that are left: its value, then the
 -- conditions of the stock store, then those of the day store
 abbrev pub change_refusal : List Change → ℕ → ℕ → ℕ → ℕ → Change → Option Refusal
-change_refusal cs stock-size day-size a b x =
+change_refusal cs stock_size day_size a b x =
     or_else (value_refusal x)
-    (or_else (of_part Stock (update_refusal (root_of_tree quantity_algebra (stock_messages cs)) stock-size a))
-    (of_part Day (update_refusal (root_of_tree latest_day_algebra (day_messages cs)) day-size b)))
+    (or_else (of_part Stock (update_refusal (root_of_tree quantity_algebra (stock_messages cs)) stock_size a))
+    (of_part Day (update_refusal (root_of_tree latest_day_algebra (day_messages cs)) day_size b)))
 
 -- an accepted change: the book keeps it, and each device was written just as often as its tree says
 pub record ChangeKept (c d : Contents) (cs : List Change) (x : Change) (r : CalledBook (Unit {0})) : Type 0 where
