@@ -1,9 +1,10 @@
 pub mod Algebra
-pub mod Quantity
-pub mod LatestDay
-pub mod Messages
-pub mod Lists
-pub mod Places
-pub mod Words
-pub mod Examples
 pub mod BatchLaw
+pub mod Examples
+pub mod LatestDay
+pub mod Lists
+pub mod Messages
+pub mod Outcomes
+pub mod Places
+pub mod Quantity
+pub mod Words

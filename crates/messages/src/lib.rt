@@ -8,3 +8,4 @@ pub mod latest_day;
 pub mod list;
 pub mod message;
 pub mod quantity;
+pub mod span;

@@ -7,6 +7,7 @@ ghost use Rattle.messages.specs.Places.{value_at};
 use crate::entry::Entry;
 use crate::kind::Kind;
 use crate::message::Message;
+use crate::span::Span;
 
 // How many messages move from a node to its child at once, at most.
 pub const MOST_MOVING: usize = 16;
@@ -30,14 +31,10 @@ fn value_at<V: Copy>(entries: &[Entry<V>], place: usize, key: u32) -> Option<V>
     ensures value { result ≡ value_at place key entries.now }
     ensures within { is_some result ≡ true → place < length entries.now }
 {
-    let Some(entry) = entries.get(place) else {
-        return None;
-    };
-    if entry.key == key {
-        Some(entry.value)
-    } else {
-        None
-    }
+    entries
+        .get(place)
+        .filter(|entry| entry.key == key)
+        .map(|entry| entry.value)
 }
 
 // What stands for a key.
@@ -90,23 +87,18 @@ pub fn apply_message<K: Kind>(records: &mut Vec<Entry<u64>>, message: Entry<Mess
     }
 }
 
-// Moves the messages of smallest key from `low` on and below `high`, at most `MOST_MOVING`, to the end of `out`.
-pub fn take_batch(
-    messages: &mut Vec<Entry<Message>>,
-    low: u32,
-    high: u64,
-    out: &mut Vec<Entry<Message>>,
-)
+// Moves the messages of smallest key in a span, at most `MOST_MOVING`, to the end of `out`.
+pub fn take_batch(messages: &mut Vec<Entry<Message>>, span: Span, out: &mut Vec<Entry<Message>>)
     requires { vec_len out.old + most_moving ≤ vec_capacity out.old }
-    ensures taken { out.new.items ≡ out.old.items ++ batch low high messages.old.items }
-    ensures kept { messages.new.items ≡ rest low high messages.old.items }
-    ensures taken_len { vec_len out.new ≡ vec_len out.old + batch_size low high messages.old.items }
-    ensures kept_len { vec_len messages.new + batch_size low high messages.old.items ≡ vec_len messages.old }
+    ensures taken { out.new.items ≡ out.old.items ++ batch span.low span.high messages.old.items }
+    ensures kept { messages.new.items ≡ rest span.low span.high messages.old.items }
+    ensures taken_len { vec_len out.new ≡ vec_len out.old + batch_size span.low span.high messages.old.items }
+    ensures kept_len { vec_len messages.new + batch_size span.low span.high messages.old.items ≡ vec_len messages.old }
     ensures taken_room { vec_capacity out.old ≤ vec_capacity out.new }
     ensures kept_room { vec_capacity messages.new ≡ vec_capacity messages.old }
 {
-    let first = place_of(messages, u64::from(low));
-    let count = place_of(messages, high)
+    let first = place_of(messages, u64::from(span.low));
+    let count = place_of(messages, span.high)
         .saturating_sub(first)
         .min(MOST_MOVING);
     let next = first + count;

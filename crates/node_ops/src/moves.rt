@@ -8,6 +8,7 @@ use messages::entry::Entry;
 use messages::kind::Kind;
 use messages::list::{apply_message, join_message, take_batch};
 use messages::message::Message;
+use messages::span::Span;
 use nodes::node::Node;
 
 // Lets a message join an inner node's messages. There is room for it.
@@ -72,7 +73,11 @@ pub fn move_batch<K: Kind>(parent: &mut Node, child: &mut Node, batch: &mut Vec<
     ensures room { 16 ≤ vec_capacity batch.new }
 {
     batch.clear();
-    take_batch(&mut parent.messages, child.low, child.high, batch);
+    let span = Span {
+        low: child.low,
+        high: child.high,
+    };
+    take_batch(&mut parent.messages, span, batch);
     absorb_all::<K>(child, batch);
 }
 
