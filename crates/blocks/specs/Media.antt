@@ -101,3 +101,7 @@ read_into (Err _) m n old = old
 -- a write lowers the allowance by 1 or not at all
 abbrev pub Lowered : ℕ → ℕ → Type 0
 Lowered before after = (after ≤ before) × (before ≤ after + 1)
+
+-- n writes or fewer lower it by n at the most
+abbrev pub LoweredBy : ℕ → ℕ → ℕ → Type 0
+LoweredBy n before after = (after ≤ before) × (before ≤ after + n)

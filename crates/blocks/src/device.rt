@@ -18,6 +18,7 @@ pub trait Device {
     // What holds of every device: at most 65,536 blocks, each of 4,096 bytes, and lost past the size.
     ghost sane: { (d : Self) → Sane (meaning d) };
 
+    // A number, since devices are open, and each may have refusals of its own.
     fn number(fault: Self::Fault) -> u8
         ensures { result ≡ number fault };
 

@@ -7,7 +7,7 @@ ghost use Rattle.blocks.specs.Refusals.{refusal_number};
 use crate::device::Device;
 use crate::limits::BLOCK_BYTES;
 use crate::memory::{blocks_in, get_block, put_block};
-use crate::refusal::Refusal;
+use crate::refusal::{Refusal, admit};
 use crate::state::State;
 
 // Which accepted writes lower the allowance.
@@ -18,7 +18,8 @@ pub enum Wear {
     NoWrite,
 }
 
-// Blocks in bytes handed in, each with a state handed in beside them. It has as many blocks as have both.
+// Blocks in bytes handed in, each with a state handed in beside them. It has as many blocks as have both. The bytes are one slice, as a card's
+// are, so a block and its state are no struct.
 #[derive(Drop)]
 pub struct FaultyDevice<'a> {
     bytes: &'a mut [u8],
@@ -81,8 +82,7 @@ fn worn(wear: Wear, allowance: u64, writes: u64) -> u64
     match wear {
         Wear::EveryWrite => allowance - 1,
         Wear::EverySecondWrite if writes % 2 == 0 => allowance - 1,
-        Wear::EverySecondWrite => allowance,
-        Wear::NoWrite => allowance,
+        Wear::EverySecondWrite | Wear::NoWrite => allowance,
     }
 }
 
@@ -126,12 +126,7 @@ impl<'a> Device for FaultyDevice<'a> {
     }
 
     fn read(&mut self, block: u32, buffer: &mut [u8]) -> Result<(), Refusal> {
-        if buffer.len() != BLOCK_BYTES {
-            return Err(Refusal::BadBuffer);
-        }
-        if block >= self.blocks() {
-            return Err(Refusal::NoSuchBlock);
-        }
+        admit(buffer.len(), block, self.blocks())?;
         match self.states[block as usize] {
             State::Sound => {}
             State::Damaged => return Err(Refusal::Damaged),
@@ -150,16 +145,11 @@ impl<'a> Device for FaultyDevice<'a> {
         ensures exact { OnOk result (self.new.allowance ≡ worn_allowance self.old.wear self.old.allowance self.old.writes) }
         ensures wear { self.new.wear ≡ self.old.wear }
     {
-        if bytes.len() != BLOCK_BYTES {
-            return Err(Refusal::BadBuffer);
-        }
-        if block >= self.blocks() {
-            return Err(Refusal::NoSuchBlock);
-        }
+        admit(bytes.len(), block, self.blocks())?;
         if self.allowance == 0 {
             return Err(Refusal::Spent);
         }
-        if let State::Lost = self.states[block as usize] {
+        if self.states[block as usize] == State::Lost {
             return Err(Refusal::Lost);
         }
         put_block(self.bytes, BLOCK_BYTES * block as usize, bytes);

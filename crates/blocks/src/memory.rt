@@ -7,7 +7,7 @@ ghost use Rattle.blocks.specs.Refusals.{refusal_number};
 
 use crate::device::Device;
 use crate::limits::{BLOCK_BYTES, MAX_BLOCKS};
-use crate::refusal::Refusal;
+use crate::refusal::{Refusal, admit};
 use crate::state::State;
 
 // Blocks that lie one after another in bytes handed in. Each accepted write costs one of the allowance.
@@ -63,6 +63,12 @@ impl<'a> MemoryDevice<'a> {
             writes: 0,
         }
     }
+
+    fn blocks(&self) -> u32
+        ensures { result ≡ (held self.now).size }
+    {
+        blocks_in(self.bytes.len())
+    }
 }
 
 impl<'a> Device for MemoryDevice<'a> {
@@ -81,11 +87,11 @@ impl<'a> Device for MemoryDevice<'a> {
     }
 
     fn size(&mut self) -> u32 {
-        blocks_in(self.bytes.len())
+        self.blocks()
     }
 
     fn state(&mut self, block: u32) -> State {
-        if block < blocks_in(self.bytes.len()) {
+        if block < self.blocks() {
             State::Sound
         } else {
             State::Lost
@@ -105,12 +111,7 @@ impl<'a> Device for MemoryDevice<'a> {
     }
 
     fn read(&mut self, block: u32, buffer: &mut [u8]) -> Result<(), Refusal> {
-        if buffer.len() != BLOCK_BYTES {
-            return Err(Refusal::BadBuffer);
-        }
-        if block >= blocks_in(self.bytes.len()) {
-            return Err(Refusal::NoSuchBlock);
-        }
+        admit(buffer.len(), block, self.blocks())?;
         get_block(self.bytes, BLOCK_BYTES * block as usize, buffer);
         self.reads = self.reads.wrapping_add(1);
         Ok(())
@@ -124,12 +125,7 @@ impl<'a> Device for MemoryDevice<'a> {
         ensures exact { OnOk result (self.new.allowance + 1 ≡ self.old.allowance) }
         ensures untouched { left_over self.new.bytes.now ≡ left_over self.old.bytes.now }
     {
-        if bytes.len() != BLOCK_BYTES {
-            return Err(Refusal::BadBuffer);
-        }
-        if block >= blocks_in(self.bytes.len()) {
-            return Err(Refusal::NoSuchBlock);
-        }
+        admit(bytes.len(), block, self.blocks())?;
         if self.allowance == 0 {
             return Err(Refusal::Spent);
         }

@@ -1,2 +1,3 @@
 mod Adding
 mod Paging
+mod Refused

@@ -1,7 +1,6 @@
 // What a book is asked.
 ghost use Rattle.std.specs.Prelude.{◌≡◌};
-ghost use Rattle.book_plan.specs.Books.{queried_book, figures_of_part};
-ghost use Rattle.store.specs.Views.{contents};
+ghost use Rattle.book.specs.Views.{state_of, after_call, queried_in, figures_in, SameAllowances};
 
 use crate::book::OpenBook;
 use crate::stores::query_store;
@@ -16,13 +15,10 @@ use store_plan::figures::Figures;
 impl<S: Device, D: Device> OpenBook<S, D> {
     // What the sheet holds, and the blocks read of each store. The day store is asked only if the stock store holds the sheet.
     pub fn query(&mut self, sheet: u32) -> Result<Found, Refusal>
-        ensures value { record { answer = result; stock = contents S.Device self.new.stock; day = contents D.Device self.new.day } ≡ queried_book (contents S.Device self.old.stock) (contents D.Device self.old.day) sheet }
-        ensures stock_allowance { (S.Device.meaning self.new.stock.device).allowance ≡ (S.Device.meaning self.old.stock.device).allowance }
-        ensures day_allowance { (D.Device.meaning self.new.day.device).allowance ≡ (D.Device.meaning self.old.day.device).allowance }
+        ensures value { after_call result (state_of self.new) ≡ queried_in (state_of self.old) sheet }
+        ensures allowances { SameAllowances (state_of self.old) (state_of self.new) }
     {
-        if let Some(refusal) = self.stopped() {
-            return Err(refusal);
-        }
+        self.stopped()?;
         let (word, stock_reads) = query_store(Part::Stock, &mut self.stock, sheet)?;
         let Some(word) = word else {
             return Ok(Found {
@@ -45,7 +41,7 @@ impl<S: Device, D: Device> OpenBook<S, D> {
 
     // The updates, the height and the tree writes of a store; zeros if its opening was refused.
     pub fn figures(&self, part: Part) -> Figures
-        ensures { result ≡ figures_of_part part (contents S.Device self.now.stock) (contents D.Device self.now.day) }
+        ensures { result ≡ figures_in (state_of self.now) part }
     {
         match part {
             Part::Stock => self.stock.figures(),

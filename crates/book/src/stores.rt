@@ -1,10 +1,11 @@
 // The calls of a store, with its refusals under the name of its part of the book.
-ghost use Rattle.std.specs.Prelude.{◌≡◌, ℕ, ◌+◌, ◌*◌, ◌<◌, ◌≤◌, length, IfOk, Some};
+ghost use Rattle.std.specs.Prelude.{◌≡◌, ℕ, ◌*◌, ◌<◌, ◌≤◌, length, IfOk, Some};
+ghost use Rattle.book.specs.Views.{known, allowance_of, checked_in, updated_store_in, queried_store_in, paged_in};
+ghost use Rattle.blocks.specs.Media.{LoweredBy};
 ghost use Rattle.book_plan.specs.Told.{told};
-ghost use Rattle.store.specs.Views.{contents, answer};
-ghost use Rattle.store_plan.specs.Pages.{paged_store};
-ghost use Rattle.store_plan.specs.Queries.{queried};
-ghost use Rattle.store_plan.specs.Updates.{update_check, updated_store};
+ghost use Rattle.calls.specs.declared.refusal.Refusal.TheVariants.{Met};
+ghost use Rattle.plan.specs.Reports.{told_by};
+ghost use Rattle.store.specs.Views.{answer};
 
 use blocks::device::Device;
 use calls::part::Part;
@@ -12,26 +13,33 @@ use calls::refusal::Refusal;
 use messages::entry::Entry;
 use messages::kind::Kind;
 use messages::message::Message;
+use plan::cause::Cause;
 use store::fault::Fault;
 use store::report::report_of;
 use store::store::Store;
 use store_plan::page::Page;
 
+// A cause that a store met, told as the book's refusal.
+pub(crate) fn met<D: Device>(part: Part, cause: Cause<D::Fault>) -> Refusal
+    ensures { result ≡ Met part (told_by D.Device.number cause) }
+{
+    Refusal::Met {
+        part,
+        report: report_of::<D>(cause),
+    }
+}
+
 // A store's answer, told as the book's.
 fn tell<D: Device, T>(part: Part, res: Result<T, Fault<D::Fault>>) -> Result<T, Refusal>
     ensures { result ≡ told part (answer D.Device.number res) }
 {
-    match res {
-        Ok(value) => Ok(value),
-        Err(Fault::Met(cause)) => Err(Refusal::Met {
-            part,
-            report: report_of::<D>(cause),
-        }),
-        Err(Fault::Stopped(cause)) => Err(Refusal::Stopped {
+    res.map_err(|fault| match fault {
+        Fault::Met(cause) => met::<D>(part, cause),
+        Fault::Stopped(cause) => Refusal::Stopped {
             part,
             first: report_of::<D>(cause),
-        }),
-    }
+        },
+    })
 }
 
 // Whether the store would refuse an update now. Nothing changes.
@@ -39,11 +47,11 @@ pub(crate) fn check_store<D: Device, K: Kind>(
     part: Part,
     store: &mut Store<D, K>,
 ) -> Result<(), Refusal>
-    ensures value { result ≡ told part (update_check (contents D.Device store.old) (contents D.Device store.old).root (D.Device.meaning store.old.device).allowance) }
-    ensures same { contents D.Device store.new ≡ contents D.Device store.old }
-    ensures allowance { (D.Device.meaning store.new.device).allowance ≡ (D.Device.meaning store.old.device).allowance }
+    ensures value { result ≡ told part (checked_in (known store.old) (allowance_of store.old)) }
+    ensures same { known store.new ≡ known store.old }
+    ensures allowance { allowance_of store.new ≡ allowance_of store.old }
 {
-    tell::<D, ()>(part, store.check_update())
+    tell::<D, _>(part, store.check_update())
 }
 
 // Lets a message arrive at a key of the store.
@@ -53,11 +61,11 @@ pub(crate) fn update_store<D: Device, K: Kind>(
     key: u32,
     message: Message,
 ) -> Result<(), Refusal>
-    ensures value { result ≡ told part (updated_store K.Kind.algebra (contents D.Device store.old) (contents D.Device store.old).root (D.Device.meaning store.old.device).allowance key message).answer }
-    ensures after { contents D.Device store.new ≡ (updated_store K.Kind.algebra (contents D.Device store.old) (contents D.Device store.old).root (D.Device.meaning store.old.device).allowance key message).contents }
-    ensures lowered { ((D.Device.meaning store.new.device).allowance ≤ (D.Device.meaning store.old.device).allowance) × ((D.Device.meaning store.old.device).allowance ≤ (D.Device.meaning store.new.device).allowance + 2 * store.old.height) }
+    ensures value { result ≡ told part (updated_store_in K.Kind.algebra (known store.old) (allowance_of store.old) key message).answer }
+    ensures after { known store.new ≡ (updated_store_in K.Kind.algebra (known store.old) (allowance_of store.old) key message).contents }
+    ensures lowered { LoweredBy (2 * (known store.old).figures.height) (allowance_of store.old) (allowance_of store.new) }
 {
-    tell::<D, ()>(part, store.update(key, message))
+    tell::<D, _>(part, store.update(key, message))
 }
 
 // What the store holds of a key, and the blocks that were read to tell.
@@ -66,11 +74,11 @@ pub(crate) fn query_store<D: Device, K: Kind>(
     store: &mut Store<D, K>,
     key: u32,
 ) -> Result<(Option<u64>, u32), Refusal>
-    ensures value { result ≡ told part (queried K.Kind.algebra (contents D.Device store.old) (contents D.Device store.old).root key).answer }
-    ensures after { contents D.Device store.new ≡ (queried K.Kind.algebra (contents D.Device store.old) (contents D.Device store.old).root key).contents }
-    ensures allowance { (D.Device.meaning store.new.device).allowance ≡ (D.Device.meaning store.old.device).allowance }
+    ensures value { result ≡ told part (queried_store_in K.Kind.algebra (known store.old) key).answer }
+    ensures after { known store.new ≡ (queried_store_in K.Kind.algebra (known store.old) key).contents }
+    ensures allowance { allowance_of store.new ≡ allowance_of store.old }
 {
-    tell::<D, (Option<u64>, u32)>(part, store.query(key))
+    tell::<D, _>(part, store.query(key))
 }
 
 // A page of the store, in the table.
@@ -81,12 +89,12 @@ pub(crate) fn page_store<D: Device, K: Kind>(
     high: u32,
     table: &mut [Entry<u64>],
 ) -> Result<Page, Refusal>
-    ensures value { result ≡ told part (paged_store K.Kind.algebra (contents D.Device store.old) (contents D.Device store.old).root low high table.old).called.answer }
-    ensures after { contents D.Device store.new ≡ (paged_store K.Kind.algebra (contents D.Device store.old) (contents D.Device store.old).root low high table.old).called.contents }
-    ensures table { table.new ≡ (paged_store K.Kind.algebra (contents D.Device store.old) (contents D.Device store.old).root low high table.old).table }
-    ensures allowance { (D.Device.meaning store.new.device).allowance ≡ (D.Device.meaning store.old.device).allowance }
+    ensures value { result ≡ told part (paged_in K.Kind.algebra (known store.old) low high table.old).called.answer }
+    ensures after { known store.new ≡ (paged_in K.Kind.algebra (known store.old) low high table.old).called.contents }
+    ensures table { table.new ≡ (paged_in K.Kind.algebra (known store.old) low high table.old).table }
+    ensures allowance { allowance_of store.new ≡ allowance_of store.old }
     ensures onward { IfOk result (λ p. (k : ℕ) → p.next ≡ Some k → (low < k) × (k ≤ high)) }
     ensures fits { IfOk result (λ p. (p.entries ≤ 2304) × (p.entries ≤ length table.old)) }
 {
-    tell::<D, Page>(part, store.page(low, high, table))
+    tell::<D, _>(part, store.page(low, high, table))
 }

@@ -1,8 +1,9 @@
 // Bookings, counts and strikes.
-ghost use Rattle.std.specs.Prelude.{◌≡◌, ◌+◌, ◌≤◌, None};
-ghost use Rattle.book_plan.specs.Books.{bad_value, barred, most_writes, conditions, both_updated, unless_refused, booked, counted, struck};
-ghost use Rattle.book_plan.specs.Told.{stopped_part};
-ghost use Rattle.store.specs.Views.{contents};
+ghost use Rattle.std.specs.Prelude.{◌≡◌, None};
+ghost use Rattle.std.specs.Result.{result_err};
+ghost use Rattle.book.specs.Views.{state_of, after_call, stopped_in, updated_in, booked_in, counted_in, struck_in, UpdateLowers};
+ghost use Rattle.book_plan.specs.Books.{bad_value};
+ghost use Rattle.messages.specs.Outcomes.{ok_unless};
 
 use crate::book::OpenBook;
 use crate::stores::{check_store, update_store};
@@ -19,42 +20,51 @@ const MOST_AMOUNT: u64 = 1_000_000_000;
 // Days are numbered from 1 to this one.
 const LAST_DAY: u64 = 999_999;
 
-// Whether an amount or a day is out of its range.
-pub fn check_value(amount: i64, day: u64) -> Option<Refusal>
-    ensures { result ≡ bad_value amount day }
+// Refuses an amount or a day that is out of its range.
+pub fn check_value(amount: i64, day: u64) -> Result<(), Refusal>
+    ensures { result ≡ ok_unless (bad_value amount day) tt }
 {
-    if amount.unsigned_abs() <= MOST_AMOUNT && 1 <= day && day <= LAST_DAY {
-        None
+    if amount.unsigned_abs() <= MOST_AMOUNT && (1..=LAST_DAY).contains(&day) {
+        Ok(())
     } else {
-        Some(Refusal::BadValue)
+        Err(Refusal::BadValue)
     }
 }
 
 impl<S: Device, D: Device> OpenBook<S, D> {
-    // Which store is stopped, if one is, and by what.
-    pub fn stopped(&self) -> Option<Refusal>
-        ensures { result ≡ stopped_part (contents S.Device self.now.stock).first (contents D.Device self.now.day).first }
+    // Refuses if a store is stopped, by what stopped it.
+    pub fn stopped(&self) -> Result<(), Refusal>
+        ensures { result ≡ ok_unless (stopped_in (state_of self.now)) tt }
     {
-        match (self.stock.stopped_by(), self.day.stopped_by()) {
-            (Some(first), _) => Some(Refusal::Stopped {
+        if let Some(first) = self.stock.stopped_by() {
+            return Err(Refusal::Stopped {
                 part: Part::Stock,
                 first,
-            }),
-            (None, Some(first)) => Some(Refusal::Stopped {
+            });
+        }
+        if let Some(first) = self.day.stopped_by() {
+            return Err(Refusal::Stopped {
                 part: Part::Day,
                 first,
-            }),
-            (None, None) => None,
+            });
         }
+        Ok(())
     }
 
-    // Gives each store a message on the sheet. The conditions of both are checked before either is touched; a fault ends the update, and
-    // what was done stands.
-    fn update_both(&mut self, sheet: u32, stock: Message, day: Message) -> Result<(), Refusal>
-        ensures value { record { answer = result; stock = contents S.Device self.new.stock; day = contents D.Device self.new.day } ≡ unless_refused (conditions (contents S.Device self.old.stock) (contents D.Device self.old.day) (S.Device.meaning self.old.stock.device).allowance (D.Device.meaning self.old.day.device).allowance) (contents S.Device self.old.stock) (contents D.Device self.old.day) (both_updated (contents S.Device self.old.stock) (contents D.Device self.old.day) (S.Device.meaning self.old.stock.device).allowance (D.Device.meaning self.old.day.device).allowance sheet stock day) }
-        ensures stock_lowered { ((S.Device.meaning self.new.stock.device).allowance ≤ (S.Device.meaning self.old.stock.device).allowance) × ((S.Device.meaning self.old.stock.device).allowance ≤ (S.Device.meaning self.new.stock.device).allowance + most_writes (conditions (contents S.Device self.old.stock) (contents D.Device self.old.day) (S.Device.meaning self.old.stock.device).allowance (D.Device.meaning self.old.day.device).allowance) (contents S.Device self.old.stock).figures.height) }
-        ensures day_lowered { ((D.Device.meaning self.new.day.device).allowance ≤ (D.Device.meaning self.old.day.device).allowance) × ((D.Device.meaning self.old.day.device).allowance ≤ (D.Device.meaning self.new.day.device).allowance + most_writes (conditions (contents S.Device self.old.stock) (contents D.Device self.old.day) (S.Device.meaning self.old.stock.device).allowance (D.Device.meaning self.old.day.device).allowance) (contents D.Device self.old.day).figures.height) }
+    // Gives each store a message on the sheet, unless the value is refused. The conditions of both are checked before either is touched; a
+    // fault ends the update, and what was done stands.
+    fn update(
+        &mut self,
+        value: Result<(), Refusal>,
+        sheet: u32,
+        stock: Message,
+        day: Message,
+    ) -> Result<(), Refusal>
+        ensures value { after_call result (state_of self.new) ≡ updated_in (state_of self.old) (result_err value) sheet stock day }
+        ensures lowered { UpdateLowers (result_err value) (state_of self.old) (state_of self.new) }
     {
+        self.stopped()?;
+        value?;
         check_store(Part::Stock, &mut self.stock)?;
         check_store(Part::Day, &mut self.day)?;
         update_store(Part::Stock, &mut self.stock, sheet, stock)?;
@@ -63,45 +73,27 @@ impl<S: Device, D: Device> OpenBook<S, D> {
 
     // Adds an amount to the sheet's quantity, and a day.
     pub fn booking(&mut self, sheet: u32, amount: i64, day: u64) -> Result<(), Refusal>
-        ensures value { record { answer = result; stock = contents S.Device self.new.stock; day = contents D.Device self.new.day } ≡ booked (contents S.Device self.old.stock) (contents D.Device self.old.day) (S.Device.meaning self.old.stock.device).allowance (D.Device.meaning self.old.day.device).allowance sheet amount day }
-        ensures stock_lowered { ((S.Device.meaning self.new.stock.device).allowance ≤ (S.Device.meaning self.old.stock.device).allowance) × ((S.Device.meaning self.old.stock.device).allowance ≤ (S.Device.meaning self.new.stock.device).allowance + most_writes (barred (contents S.Device self.old.stock) (contents D.Device self.old.day) (S.Device.meaning self.old.stock.device).allowance (D.Device.meaning self.old.day.device).allowance (bad_value amount day)) (contents S.Device self.old.stock).figures.height) }
-        ensures day_lowered { ((D.Device.meaning self.new.day.device).allowance ≤ (D.Device.meaning self.old.day.device).allowance) × ((D.Device.meaning self.old.day.device).allowance ≤ (D.Device.meaning self.new.day.device).allowance + most_writes (barred (contents S.Device self.old.stock) (contents D.Device self.old.day) (S.Device.meaning self.old.stock.device).allowance (D.Device.meaning self.old.day.device).allowance (bad_value amount day)) (contents D.Device self.old.day).figures.height) }
+        ensures value { after_call result (state_of self.new) ≡ booked_in (state_of self.old) sheet amount day }
+        ensures lowered { UpdateLowers (bad_value amount day) (state_of self.old) (state_of self.new) }
     {
-        if let Some(refusal) = self.stopped() {
-            return Err(refusal);
-        }
-        if let Some(refusal) = check_value(amount, day) {
-            return Err(refusal);
-        }
         let delta = Message::Add(amount.cast_unsigned());
-        self.update_both(sheet, delta, Message::Add(day))
+        self.update(check_value(amount, day), sheet, delta, Message::Add(day))
     }
 
     // Puts the sheet's quantity, and adds a day.
     pub fn count(&mut self, sheet: u32, amount: i64, day: u64) -> Result<(), Refusal>
-        ensures value { record { answer = result; stock = contents S.Device self.new.stock; day = contents D.Device self.new.day } ≡ counted (contents S.Device self.old.stock) (contents D.Device self.old.day) (S.Device.meaning self.old.stock.device).allowance (D.Device.meaning self.old.day.device).allowance sheet amount day }
-        ensures stock_lowered { ((S.Device.meaning self.new.stock.device).allowance ≤ (S.Device.meaning self.old.stock.device).allowance) × ((S.Device.meaning self.old.stock.device).allowance ≤ (S.Device.meaning self.new.stock.device).allowance + most_writes (barred (contents S.Device self.old.stock) (contents D.Device self.old.day) (S.Device.meaning self.old.stock.device).allowance (D.Device.meaning self.old.day.device).allowance (bad_value amount day)) (contents S.Device self.old.stock).figures.height) }
-        ensures day_lowered { ((D.Device.meaning self.new.day.device).allowance ≤ (D.Device.meaning self.old.day.device).allowance) × ((D.Device.meaning self.old.day.device).allowance ≤ (D.Device.meaning self.new.day.device).allowance + most_writes (barred (contents S.Device self.old.stock) (contents D.Device self.old.day) (S.Device.meaning self.old.stock.device).allowance (D.Device.meaning self.old.day.device).allowance (bad_value amount day)) (contents D.Device self.old.day).figures.height) }
+        ensures value { after_call result (state_of self.new) ≡ counted_in (state_of self.old) sheet amount day }
+        ensures lowered { UpdateLowers (bad_value amount day) (state_of self.old) (state_of self.new) }
     {
-        if let Some(refusal) = self.stopped() {
-            return Err(refusal);
-        }
-        if let Some(refusal) = check_value(amount, day) {
-            return Err(refusal);
-        }
         let value = Message::Put(amount.cast_unsigned());
-        self.update_both(sheet, value, Message::Add(day))
+        self.update(check_value(amount, day), sheet, value, Message::Add(day))
     }
 
     // Removes the sheet from both stores.
     pub fn strike(&mut self, sheet: u32) -> Result<(), Refusal>
-        ensures value { record { answer = result; stock = contents S.Device self.new.stock; day = contents D.Device self.new.day } ≡ struck (contents S.Device self.old.stock) (contents D.Device self.old.day) (S.Device.meaning self.old.stock.device).allowance (D.Device.meaning self.old.day.device).allowance sheet }
-        ensures stock_lowered { ((S.Device.meaning self.new.stock.device).allowance ≤ (S.Device.meaning self.old.stock.device).allowance) × ((S.Device.meaning self.old.stock.device).allowance ≤ (S.Device.meaning self.new.stock.device).allowance + most_writes (barred (contents S.Device self.old.stock) (contents D.Device self.old.day) (S.Device.meaning self.old.stock.device).allowance (D.Device.meaning self.old.day.device).allowance None) (contents S.Device self.old.stock).figures.height) }
-        ensures day_lowered { ((D.Device.meaning self.new.day.device).allowance ≤ (D.Device.meaning self.old.day.device).allowance) × ((D.Device.meaning self.old.day.device).allowance ≤ (D.Device.meaning self.new.day.device).allowance + most_writes (barred (contents S.Device self.old.stock) (contents D.Device self.old.day) (S.Device.meaning self.old.stock.device).allowance (D.Device.meaning self.old.day.device).allowance None) (contents D.Device self.old.day).figures.height) }
+        ensures value { after_call result (state_of self.new) ≡ struck_in (state_of self.old) sheet }
+        ensures lowered { UpdateLowers None (state_of self.old) (state_of self.new) }
     {
-        if let Some(refusal) = self.stopped() {
-            return Err(refusal);
-        }
-        self.update_both(sheet, Message::Remove, Message::Remove)
+        self.update(Ok(()), sheet, Message::Remove, Message::Remove)
     }
 }

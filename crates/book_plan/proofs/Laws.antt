@@ -12,7 +12,7 @@ use Rattle.store_laws.proofs.Laws as store_proofs
 use Rattle.store_plan.specs.Contents.{Contents, Called}
 use Rattle.store_plan.specs.Queries.{queried}
 use Rattle.store_plan.specs.Updates.{update_refusal, update_check, updated_store, by_refusal}
-use Rattle.store_plan.specs.declared.refusal.StoreRefusal.{StoreRefusal}
+use Rattle.plan.specs.declared.refusal.StoreRefusal.{StoreRefusal}
 use Rattle.tree.specs.Laws.{meaning}
 use Rattle.tree.specs.Lookup.{said}
 use Rattle.tree.specs.Query.{query}

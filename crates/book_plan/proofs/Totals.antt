@@ -18,8 +18,8 @@ use Rattle.store_laws.specs.Laws.{PageGiven, PageRefused, PageOutcome}
 use Rattle.store_laws.proofs.Laws.{page_law}
 use Rattle.store_plan.specs.Contents.{Contents}
 use Rattle.store_plan.specs.Pages.{PagedStore, no_entry, page_refusal, paged_store}
-use Rattle.store_plan.specs.Refusals.{store_report}
-use Rattle.store_plan.specs.declared.refusal.StoreRefusal.{StoreRefusal}
+use Rattle.plan.specs.Reports.{store_report}
+use Rattle.plan.specs.declared.refusal.StoreRefusal.{StoreRefusal}
 use Rattle.tree.specs.Laws.{meaning, sum_of_words, sum_of_numbers}
 use Rattle.tree.specs.Lookup.{said}
 use Rattle.tree.specs.Nodes.{Node, height}

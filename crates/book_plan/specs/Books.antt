@@ -11,10 +11,10 @@ use Rattle.plan.specs.Images.Try.{done, stop}
 use Rattle.store_plan.specs.Contents.{Contents, Called}
 use Rattle.store_plan.specs.Openings.{format_refusal, formatted}
 use Rattle.store_plan.specs.Queries.{queried}
-use Rattle.store_plan.specs.Refusals.{store_report}
+use Rattle.plan.specs.Reports.{store_report}
 use Rattle.store_plan.specs.Updates.{update_check, updated_store}
 use Rattle.store_plan.specs.declared.figures.Figures.{Figures}
-use Rattle.store_plan.specs.declared.refusal.StoreRefusal.{StoreRefusal}
+use Rattle.plan.specs.declared.refusal.StoreRefusal.{StoreRefusal}
 use Rattle.calls.specs.declared.answer.Found.{Found}
 use Rattle.calls.specs.declared.part.Part.{Part}
 use Rattle.calls.specs.declared.part.Part.TheVariants.{Stock, Day}

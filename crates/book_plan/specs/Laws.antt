@@ -7,9 +7,9 @@ use Rattle.bridge.specs.Work.{Work}
 use Rattle.store_laws.specs.Held.{Holds, root_of_tree}
 use Rattle.store_plan.specs.Contents.{Contents}
 use Rattle.store_plan.specs.Pages.{page_refusal}
-use Rattle.store_plan.specs.Refusals.{store_report}
+use Rattle.plan.specs.Reports.{store_report}
 use Rattle.store_plan.specs.Updates.{update_refusal}
-use Rattle.store_plan.specs.declared.refusal.StoreRefusal.{StoreRefusal}
+use Rattle.plan.specs.declared.refusal.StoreRefusal.{StoreRefusal}
 use Rattle.tree.specs.Nodes.{height, next_free}
 use Rattle.tree.specs.Update.{update, writes, batches, grown}
 use Rattle.calls.specs.declared.answer.Found.{Found}

@@ -12,13 +12,11 @@ stands o = is_some o
 abbrev pub reading_of : Contents → Reading
 reading_of c = record {
   stands = stands c.root;
-  updates = c.figures.updates;
-  height = c.figures.height;
-  tree_writes = c.figures.tree_writes;
+  figures = c.figures;
   reads = c.image.reads;
   writes = c.image.writes;
 }
 
 -- of a closed store just the device's counts are seen
 abbrev pub at_rest : Medium → Reading
-at_rest m = record { stands = false; updates = 0; height = 0; tree_writes = 0; reads = m.reads; writes = m.writes }
+at_rest m = record { stands = false; figures = record { updates = 0; height = 0; tree_writes = 0 }; reads = m.reads; writes = m.writes }

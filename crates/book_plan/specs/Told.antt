@@ -1,6 +1,6 @@
 -- What a book makes of the answer of one of its stores.
 use Rattle.std.specs.Prelude.{Some, None, Ok, Err, Option, Result}
-use Rattle.plan.specs.declared.report.Report.{Report}
+use Rattle.plan.specs.Reports.{Report}
 use Rattle.calls.specs.declared.part.Part.{Part}
 use Rattle.calls.specs.declared.part.Part.TheVariants.{Stock, Day}
 use Rattle.calls.specs.declared.refusal.Refusal.{Refusal}

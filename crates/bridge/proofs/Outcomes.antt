@@ -9,7 +9,7 @@ use Rattle.plan.specs.Codes.{Code, decoded}
 use Rattle.plan.specs.Images.{Image, Try, bind, unless_refused, load, save, image_read, image_written}
 use Rattle.plan.specs.Images.Try.{done, stop}
 use Rattle.plan.specs.Steps.{Fetched, fetch, unless_bad}
-use Rattle.plan.specs.declared.report.Report.{Report}
+use Rattle.plan.specs.Reports.{Report}
 use Rattle.tree.specs.Nodes.{Node}
 
 -- Q holds of what t gives, and t stops only where S fails

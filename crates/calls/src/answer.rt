@@ -1,6 +1,6 @@
 // What a book answers to a call.
 use crate::refusal::Refusal;
-use plan::report::Report;
+use plan::cause::Report;
 use store_plan::figures::Figures;
 
 // What a sheet holds.
@@ -43,7 +43,7 @@ pub enum Answer {
     Found(Found),
     Total(Sum),
     Figures(Figures),
-    // The book was closed; whether each store was found not stopped.
+    // The book was closed; whether each store was found not stopped. There is no value beside the flags, so they are no options.
     Closed {
         stock: bool,
         day: bool,

@@ -3,8 +3,8 @@ ghost use Rattle.std.specs.Prelude.{◌≡◌};
 ghost use Rattle.calls.specs.Refusals.{number_told, layer_told, part_told};
 
 use crate::part::Part;
+use plan::cause::Report;
 use plan::layer::Layer;
-use plan::report::Report;
 
 #[derive(Clone, Copy, PartialEq, Eq, Debug)]
 pub enum Refusal {
@@ -22,8 +22,8 @@ impl Refusal {
     {
         match *self {
             Refusal::BadValue => 3,
-            Refusal::Met { part: _, report } => report.number,
-            Refusal::Stopped { part: _, first: _ } => 2,
+            Refusal::Met { report, .. } => report.number(),
+            Refusal::Stopped { .. } => 2,
         }
     }
 
@@ -32,8 +32,8 @@ impl Refusal {
     {
         match *self {
             Refusal::BadValue => Layer::Book,
-            Refusal::Met { part: _, report } => report.layer,
-            Refusal::Stopped { part: _, first: _ } => Layer::Store,
+            Refusal::Met { report, .. } => report.layer(),
+            Refusal::Stopped { .. } => Layer::Store,
         }
     }
 
@@ -43,8 +43,7 @@ impl Refusal {
     {
         match *self {
             Refusal::BadValue => None,
-            Refusal::Met { part, report: _ } => Some(part),
-            Refusal::Stopped { part, first: _ } => Some(part),
+            Refusal::Met { part, .. } | Refusal::Stopped { part, .. } => Some(part),
         }
     }
 }

@@ -1,12 +1,11 @@
 -- One block more comes to the card.
-use Rattle.std.proofs.Common.{◌≡◌, ℕ, suc, ◌+◌, ◌-◌, ◌%◌, ◌^◌, ◌<◌, ◌≤◌, true, false, eqb, List, [], ◌∷◌, ◌++◌, sym, refl, ap, ◌∙◌, ⊎_elim, add-one, arith}
+use Rattle.std.proofs.Common.{◌≡◌, ℕ, suc, ◌+◌, ◌-◌, ◌%◌, ◌^◌, ◌<◌, ◌≤◌, true, false, eqb, List, [], ◌∷◌, ◌++◌, Ok, Err, sym, refl, ap, ◌∙◌, ⊎_elim, add-one, arith}
 use Rattle.std.proofs.lemmas.Bool.{cases_lt, cases_eq, cond-true, cond-false, eq-eqb, ne_eqb, lt-ltb, le-ltb}
 use Rattle.blocks.specs.declared.refusal.Refusal.TheVariants.{NoSuchBlock, Spent}
 use Rattle.blocks.specs.Media.{Medium, was_read, was_written}
 use Rattle.blocks.specs.Memory.{block_of}
-use Rattle.card.specs.declared.outcome.Outcome.{Outcome}
-use Rattle.card.specs.declared.outcome.Outcome.TheVariants.{Kept, Refused}
-use Rattle.card.specs.Keeping.{padded, outcome_of, after_keep, outcomes, kept, Keeps}
+use Rattle.card.specs.declared.outcome.KeepError.TheVariants.{Refused}
+use Rattle.card.specs.Keeping.{Outcome, padded, outcome_of, after_keep, outcomes, kept, Keeps}
 
 -- before the first block
 pub keeps_none : (m : Medium) (input : List ℕ) → Keeps m input 0 m []
@@ -15,17 +14,17 @@ keeps_none m input =
 
 -- what is left after the first n, and the outcome of the next
 module _ (m t : Medium) (input : List ℕ) (n : ℕ) (came : List Outcome) (h : Keeps m input n t came) where
-  outcome_kept : n < m.size → n < m.allowance → outcome_of m.size (m.allowance - n) n ≡ Kept
+  outcome_kept : n < m.size → n < m.allowance → outcome_of m.size (m.allowance - n) n ≡ Ok tt
   outcome_kept room left =
       let some : eqb (m.allowance - n) 0 ≡ false = ne_eqb (m.allowance - n) 0 (λ e. omega arith) in
       rw (lt-ltb n m.size room, some) refl
 
-  outcome_spent : n < m.size → m.allowance ≤ n → outcome_of m.size (m.allowance - n) n ≡ Refused Spent
+  outcome_spent : n < m.size → m.allowance ≤ n → outcome_of m.size (m.allowance - n) n ≡ Err (Refused Spent)
   outcome_spent room none =
       let gone : eqb (m.allowance - n) 0 ≡ true = eq-eqb (m.allowance - n) 0 (omega arith) in
       rw (lt-ltb n m.size room, gone) refl
 
-  outcome_past : m.size ≤ n → outcome_of m.size (m.allowance - n) n ≡ Refused NoSuchBlock
+  outcome_past : m.size ≤ n → outcome_of m.size (m.allowance - n) n ≡ Err (Refused NoSuchBlock)
   outcome_past past = rw (le-ltb n m.size past) refl
 
   -- the outcome is told from the card as it now is
@@ -36,11 +35,11 @@ module _ (m t : Medium) (input : List ℕ) (n : ℕ) (came : List Outcome) (h : 
       (cases_lt n m.size)
 
   -- a block that is kept
-  one_kept : n < m.size → n < m.allowance → Keeps m input (suc n) (was_read (was_written t n (padded (block_of input n)) (t.allowance - 1))) (came ++ Kept ∷ [])
+  one_kept : n < m.size → n < m.allowance → Keeps m input (suc n) (was_read (was_written t n (padded (block_of input n)) (t.allowance - 1))) (came ++ Ok tt ∷ [])
   one_kept room left =
       let b = padded (block_of input n) in
       record {
-        came_to = ap (λ x. x ++ Kept ∷ []) h.came_to ∙ ap (λ o. outcomes m.size m.allowance n ++ o ∷ []) (sym (outcome_kept room left));
+        came_to = ap (λ x. x ++ Ok tt ∷ []) h.came_to ∙ ap (λ o. outcomes m.size m.allowance n ++ o ∷ []) (sym (outcome_kept room left));
         size = h.size;
         allowance = omega (arith, h.allowance);
         reads = omega (arith, h.reads);
@@ -65,11 +64,11 @@ module _ (m t : Medium) (input : List ℕ) (n : ℕ) (came : List Outcome) (h : 
         others = λ k most. h.others k (omega arith);
       }
 
-  after_spent : n < m.size → m.allowance ≤ n → Keeps m input (suc n) t (came ++ Refused Spent ∷ [])
-  after_spent room none = one_refused (Refused Spent) (sym (outcome_spent room none)) (omega arith)
+  after_spent : n < m.size → m.allowance ≤ n → Keeps m input (suc n) t (came ++ Err (Refused Spent) ∷ [])
+  after_spent room none = one_refused (Err (Refused Spent)) (sym (outcome_spent room none)) (omega arith)
 
-  after_past : m.size ≤ n → Keeps m input (suc n) t (came ++ Refused NoSuchBlock ∷ [])
-  after_past past = one_refused (Refused NoSuchBlock) (sym (outcome_past past)) (omega arith)
+  after_past : m.size ≤ n → Keeps m input (suc n) t (came ++ Err (Refused NoSuchBlock) ∷ [])
+  after_past past = one_refused (Err (Refused NoSuchBlock)) (sym (outcome_past past)) (omega arith)
 
   -- after the next block, whatever comes of it
   pub keeps_more : (o : Outcome) (u : Medium) → o ≡ outcome_of t.size t.allowance n → u ≡ after_keep o t n (padded (block_of input n)) → Keeps m input (n + 1) u (came ++ o ∷ [])

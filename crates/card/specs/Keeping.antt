@@ -1,21 +1,25 @@
 -- What becomes of an input that is put on a card in memory, block by block.
-use Rattle.std.specs.Prelude.{◌≡◌, ℕ, zero, suc, ◌+◌, ◌-◌, ◌/◌, ◌%◌, ◌^◌, ◌<◌, ◌≤◌, min, cond, List, [], ◌∷◌, ◌++◌, length, replicate, codes, decimal, ◌==◌, nat_lt}
+use Rattle.std.specs.Prelude.{◌≡◌, ℕ, zero, suc, ◌+◌, ◌-◌, ◌/◌, ◌%◌, ◌^◌, ◌<◌, ◌≤◌, min, cond, List, [], ◌∷◌, ◌++◌, length, replicate, codes, decimal, Ok, Err, Result, ◌==◌, nat_lt}
 use Rattle.blocks.specs.declared.refusal.Refusal.TheVariants.{NoSuchBlock, Spent}
 use Rattle.blocks.specs.Media.{Medium, block_bytes, was_read, was_written}
 use Rattle.blocks.specs.Memory.{block_of}
 use Rattle.blocks.specs.Refusals.{refusal_number}
-use Rattle.card.specs.declared.outcome.Outcome.{Outcome}
-use Rattle.card.specs.declared.outcome.Outcome.TheVariants.{Kept, Changed, Refused}
+use Rattle.card.specs.declared.outcome.KeepError.{KeepError}
+use Rattle.card.specs.declared.outcome.KeepError.TheVariants.{Changed, Refused}
 
 -- the most bytes of an input
 abbrev pub input_bytes : ℕ
 input_bytes = 81920
 
--- an outcome as it is printed
-abbrev pub outcome_text : Outcome → List ℕ
-outcome_text Kept = codes "ok"
-outcome_text Changed = codes "changed"
-outcome_text (Refused refusal) = codes "no " ++ decimal (refusal_number refusal)
+-- what comes of a block: it is kept, or not
+abbrev pub Outcome : Type 0
+Outcome = Result (Unit {0}) KeepError
+
+-- a block with its outcome, as they are printed
+abbrev pub line_text : ℕ → Outcome → List ℕ
+line_text block (Ok _) = decimal block ++ codes " ok"
+line_text block (Err Changed) = decimal block ++ codes " changed"
+line_text block (Err (Refused refusal)) = decimal block ++ codes " no " ++ decimal (refusal_number refusal)
 
 -- the blocks that so many bytes take
 abbrev pub parts : ℕ → ℕ
@@ -27,13 +31,13 @@ padded bs = bs ++ replicate (block_bytes - length bs) 0
 
 -- what comes of block n on a card of so many blocks with so many writes left
 abbrev pub outcome_of : ℕ → ℕ → ℕ → Outcome
-outcome_of size left n = cond (nat_lt n size) (cond (left == 0) (Refused Spent) Kept) (Refused NoSuchBlock)
+outcome_of size left n = cond (nat_lt n size) (cond (left == 0) (Err (Refused Spent)) (Ok tt)) (Err (Refused NoSuchBlock))
 
 -- the card after that: a block that is kept was written once and read once
 abbrev pub after_keep : Outcome → Medium → ℕ → List ℕ → Medium
-after_keep Kept m n bytes = was_read (was_written m n bytes (m.allowance - 1))
-after_keep Changed m n bytes = was_read (was_written m n bytes (m.allowance - 1))
-after_keep (Refused _) m n bytes = m
+after_keep (Ok _) m n bytes = was_read (was_written m n bytes (m.allowance - 1))
+after_keep (Err Changed) m n bytes = was_read (was_written m n bytes (m.allowance - 1))
+after_keep (Err (Refused _)) m n bytes = m
 
 -- the outcomes of the first n blocks: each one kept costs a write
 abbrev pub outcomes : ℕ → ℕ → ℕ → List Outcome

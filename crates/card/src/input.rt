@@ -7,7 +7,8 @@ use std::io::Read;
 // The most bytes that are read: twenty blocks.
 pub const INPUT_BYTES: usize = 81920;
 
-// Fills the buffer from the input, until that ends or the buffer is full, and gives the bytes filled.
+// Fills the buffer from the input, until that ends or the buffer is full, and gives the bytes filled. A `take` with `read_to_end` would not
+// keep to memory that is reserved beforehand, and promises no bound.
 pub fn read_some<R: Read>(input: &mut R, buffer: &mut [u8]) -> io::Result<usize>
     ensures { IfOk result (λ n. n ≤ length buffer.new) }
 {

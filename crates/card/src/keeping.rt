@@ -1,10 +1,10 @@
 // The work: the input put on a card and compared.
-ghost use Rattle.std.specs.Prelude.{◌≡◌, ℕ, ◌+◌, ◌%◌, ◌^◌, ◌<◌, ◌≤◌, length, MatchResult};
+ghost use Rattle.std.specs.Prelude.{◌≡◌, ◌+◌, ◌%◌, ◌^◌, ◌<◌, ◌≤◌, length, MatchResult};
 ghost use Rattle.blocks.specs.Media.{block_bytes};
 ghost use Rattle.blocks.specs.Memory.{held};
 ghost use Rattle.card.specs.Keeping.{outcome_of, after_keep, parts, Keeps, input_bytes};
 
-use crate::outcome::Outcome;
+use crate::outcome::{KeepError, Outcome};
 use crate::padding::{fill_block, parts_of};
 use blocks::device::Device;
 use blocks::limits::BLOCK_BYTES;
@@ -13,20 +13,17 @@ use std::alloc::{AllocError, Global};
 
 // Writes a block, reads it back and compares.
 fn keep_block(card: &mut MemoryDevice, block: u32, bytes: &[u8], back: &mut [u8]) -> Outcome
-    requires { (length bytes.now ≡ block_bytes) × (length back.old ≡ block_bytes) }
+    requires whole { length bytes.now ≡ block_bytes }
+    requires room { length back.old ≡ block_bytes }
     ensures outcome { result ≡ outcome_of (held card.old).size (held card.old).allowance block }
     ensures after { held card.new ≡ after_keep result (held card.old) block bytes.now }
 {
-    if let Err(refusal) = card.write(block, bytes) {
-        return Outcome::Refused(refusal);
-    }
-    if let Err(refusal) = card.read(block, back) {
-        return Outcome::Refused(refusal);
-    }
+    card.write(block, bytes)?;
+    card.read(block, back)?;
     if *back == *bytes {
-        Outcome::Kept
+        Ok(())
     } else {
-        Outcome::Changed
+        Err(KeepError::Changed)
     }
 }
 
@@ -43,6 +40,7 @@ pub fn keep_input(
     let mut outcomes = Vec::with_capacity(heap, parts)?;
     let mut block = [0u8; BLOCK_BYTES];
     let mut back = [0u8; BLOCK_BYTES];
+    // By number, which is the block on the card too.
     for part in 0..parts {
         fill_block(input, part, &mut block);
         outcomes.push_reserved(keep_block(card, part as u32, &block, &mut back));

@@ -8,7 +8,7 @@ mod padding;
 
 use crate::input::{INPUT_BYTES, read_some};
 use crate::keeping::keep_input;
-use crate::outcome::Outcome;
+use crate::outcome::{Line, Outcome};
 use blocks::device::Device;
 use blocks::limits::BLOCK_BYTES;
 use blocks::memory::MemoryDevice;
@@ -21,7 +21,11 @@ const CARD_WRITES: u64 = 12;
 
 fn print_outcomes(rt: &impl Print, outcomes: &[Outcome]) -> io::Result<()> {
     for (block, outcome) in outcomes.iter().enumerate() {
-        println!(rt; "{block} {outcome}")?;
+        let line = Line {
+            block,
+            outcome: *outcome,
+        };
+        println!(rt; "{line}")?;
     }
     Ok(())
 }

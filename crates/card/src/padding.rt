@@ -1,5 +1,5 @@
 // The input cut into blocks.
-ghost use Rattle.std.specs.Prelude.{◌≡◌, ◌+◌, ◌/◌, ◌≤◌, length};
+ghost use Rattle.std.specs.Prelude.{◌≡◌, ◌+◌, ◌/◌, ◌<◌, ◌≤◌, length};
 ghost use Rattle.blocks.specs.Media.{block_bytes};
 ghost use Rattle.blocks.specs.Memory.{block_of};
 ghost use Rattle.card.specs.Keeping.{padded, parts};
@@ -15,7 +15,8 @@ pub fn parts_of(len: usize) -> usize
 
 // Fills a block with bytes, and what is left of it with zeros.
 fn pad(bytes: &[u8], block: &mut [u8])
-    requires { (length bytes.now ≤ block_bytes) × (length block.old ≡ block_bytes) }
+    requires fits { length bytes.now ≤ block_bytes }
+    requires whole { length block.old ≡ block_bytes }
     ensures { block.new ≡ padded bytes.now }
 {
     let filled = bytes.len();
@@ -25,7 +26,8 @@ fn pad(bytes: &[u8], block: &mut [u8])
 
 // Fills a block with the part of the input that belongs there.
 pub fn fill_block(input: &[u8], part: usize, block: &mut [u8])
-    requires { (part + 1 ≤ parts (length input.now)) × (length block.old ≡ block_bytes) }
+    requires within { part < parts (length input.now) }
+    requires whole { length block.old ≡ block_bytes }
     ensures { block.new ≡ padded (block_of input.now part) }
 {
     let from = BLOCK_BYTES * part;

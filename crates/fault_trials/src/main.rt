@@ -9,17 +9,16 @@ mod told;
 mod worn;
 
 use crate::bad::try_bad_blocks;
+use crate::card::Card;
 use crate::tampered::try_tampered;
 use crate::worn::{try_full_card, try_wear, try_wrapping};
-use blocks::state::State;
 use std::io;
 
 fn main(rt: HostRuntime) -> io::Result<()> {
-    let mut bytes = vec![in rt.alloc(); 0u8; 131072]?;
-    let mut states = vec![in rt.alloc(); State::Sound; 32]?;
-    try_bad_blocks(&rt, rt.alloc(), &mut bytes, &mut states)?;
-    try_tampered(&rt, rt.alloc(), &mut bytes, &mut states)?;
-    try_wear(&rt, rt.alloc(), &mut bytes, &mut states)?;
-    try_wrapping(&rt, rt.alloc(), &mut bytes, &mut states)?;
-    try_full_card(&rt, rt.alloc(), &mut bytes, &mut states)
+    let mut card = Card::new(rt.alloc(), 32)?;
+    try_bad_blocks(&rt, &mut card)?;
+    try_tampered(&rt, &mut card)?;
+    try_wear(&rt, &mut card)?;
+    try_wrapping(&rt, &mut card)?;
+    try_full_card(&rt)
 }

@@ -1,107 +1,58 @@
 // Cards whose blocks were tampered with below the root: the first rule that is broken is told.
-use crate::card::{Keys, Trialed, prepare};
-use crate::told::{Told, print_told};
-use blocks::device::Device;
-use blocks::faulty::{FaultyDevice, Wear};
+use crate::card::{Card, Trialed};
+use crate::told::Told;
+use blocks::faulty::Wear;
 use blocks::limits::BLOCK_BYTES;
-use blocks::state::State;
-use std::alloc::Global;
 use std::io;
 use store::workspace::Workspace;
+use trial_runs::cards::PLENTY;
+use trial_runs::cost::close;
+use trial_runs::order::Order;
 
-// The byte at a place of each node of a level is changed.
+// A level, the place in each of its nodes that is changed, and the byte that it is changed to.
 #[derive(Clone, Copy)]
-struct Change {
-    level: u8,
-    place: usize,
-    byte: u8,
-}
+struct Change(u8, usize, u8);
 
 // One for each rule, in their order.
 const CHANGES: [Change; 10] = [
-    Change {
-        level: 0,
-        place: 0,
-        byte: 2,
-    },
-    Change {
-        level: 0,
-        place: 1,
-        byte: 1,
-    },
-    Change {
-        level: 0,
-        place: 2,
-        byte: 2,
-    },
-    Change {
-        level: 0,
-        place: 4,
-        byte: 1,
-    },
-    Change {
-        level: 0,
-        place: 5,
-        byte: 9,
-    },
-    Change {
-        level: 0,
-        place: 8,
-        byte: 1,
-    },
-    Change {
-        level: 1,
-        place: 32,
-        byte: 255,
-    },
-    Change {
-        level: 1,
-        place: 60,
-        byte: 255,
-    },
-    Change {
-        level: 0,
-        place: 32,
-        byte: 255,
-    },
-    Change {
-        level: 0,
-        place: 6,
-        byte: 1,
-    },
+    Change(0, 0, 2),
+    Change(0, 1, 1),
+    Change(0, 2, 2),
+    Change(0, 4, 1),
+    Change(0, 5, 9),
+    Change(0, 8, 1),
+    Change(1, 32, 255),
+    Change(1, 60, 255),
+    Change(0, 32, 255),
+    Change(0, 6, 1),
 ];
 
+// The updates of a card that is tampered with, and the blocks that its tree has then taken.
+const UPDATES: u32 = 2000;
+
+const BLOCKS_TAKEN: usize = 12;
+
+// Changes each node of the level below the root.
 fn tamper(bytes: &mut [u8], change: Change) {
-    for block in 1..12usize {
-        let at = BLOCK_BYTES * block;
-        if at + BLOCK_BYTES <= bytes.len()
-            && change.place < BLOCK_BYTES
-            && bytes[at] == change.level
-        {
-            bytes[at + change.place] = change.byte;
+    let Change(level, place, byte) = change;
+    for node in bytes.chunks_mut(BLOCK_BYTES).take(BLOCKS_TAKEN).skip(1) {
+        if place < node.len() && node[0] == level {
+            node[place] = byte;
         }
     }
 }
 
-pub fn try_tampered(
-    rt: &impl Print,
-    heap: Global,
-    bytes: &mut [u8],
-    states: &mut [State],
-) -> io::Result<()> {
-    for change in CHANGES.iter() {
-        prepare(heap, bytes, states, Keys::Falling, 2000)?;
-        tamper(bytes, *change);
-        let level = change.level;
-        let place = change.place;
-        let byte = change.byte;
+pub fn try_tampered(rt: &(impl Print + AllocGlobal), card: &mut Card) -> io::Result<()> {
+    for change in &CHANGES {
+        card.prepare(rt.alloc(), Order::Falling, UPDATES)?;
+        tamper(&mut card.bytes, *change);
+        let Change(level, place, byte) = *change;
         println!(rt; "byte {place} of each node of level {level} is {byte}")?;
-        let workspace = Workspace::new(heap)?;
-        let device = FaultyDevice::new(bytes, states, Wear::EveryWrite, 1000000);
-        let mut store = Trialed::open(device, workspace);
+        let workspace = Workspace::new(rt.alloc())?;
+        let mut store = Trialed::open(card.device(Wear::EveryWrite, PLENTY), workspace);
         let asked = Told::Query(store.query(0));
-        let (_device, _workspace) = store.close();
-        print_told(rt, asked)?;
+        close(store);
+        println!(rt; "  {asked}")?;
     }
     Ok(())
 }

@@ -1,31 +1,37 @@
 // What calls answer, as text.
 use blocks::refusal::Refusal;
-use std::io;
-use steps::cause::Cause;
+use plan::cause::Cause;
+use std::fmt;
 use store::fault::Fault;
 use store_plan::page::Page;
-use store_plan::refusal::StoreRefusal;
 
-fn print_cause(rt: &impl Print, cause: Cause<Refusal>) -> io::Result<()> {
-    match cause {
-        Cause::Device { fault, block } => {
-            let number = fault.number();
-            println!(rt; "device refuses, {number}, block {block}")
+// A cause as text.
+#[derive(Clone, Copy)]
+struct Because(Cause<Refusal>);
+
+impl fmt::Display for Because {
+    fn fmt<W: fmt::Write>(&self, f: &mut fmt::Formatter<W>) -> fmt::Result {
+        match self.0 {
+            Cause::Device { fault, block } => {
+                write!(f, "device refuses, {}, block {block}", fault.number())
+            }
+            Cause::BadNode { block, rule } => {
+                write!(f, "bad node, block {block}, rule {}", rule.number())
+            }
+            Cause::Store(refusal) => write!(f, "store refuses, {refusal:?}"),
         }
-        Cause::BadNode { block, rule } => {
-            let number = rule.number();
-            println!(rt; "bad node, block {block}, rule {number}")
-        }
-        Cause::Store(refusal) => println!(rt; "store refuses, {refusal:?}"),
     }
 }
 
-fn print_fault(rt: &impl Print, fault: Fault<Refusal>) -> io::Result<()> {
-    match fault {
-        Fault::Met(cause) => print_cause(rt, cause),
-        Fault::Stopped(first) => {
-            print!(rt; "stopped before: ")?;
-            print_cause(rt, first)
+// A fault as text.
+#[derive(Clone, Copy)]
+struct Failed(Fault<Refusal>);
+
+impl fmt::Display for Failed {
+    fn fmt<W: fmt::Write>(&self, f: &mut fmt::Formatter<W>) -> fmt::Result {
+        match self.0 {
+            Fault::Met(cause) => write!(f, "{}", Because(cause)),
+            Fault::Stopped(first) => write!(f, "stopped before: {}", Because(first)),
         }
     }
 }
@@ -38,38 +44,22 @@ pub enum Told {
     Page(Result<Page, Fault<Refusal>>),
 }
 
-fn print_page(rt: &impl Print, page: Page) -> io::Result<()> {
-    let Page {
-        entries,
-        reads,
-        next,
-    } = page;
-    match next {
-        Some(key) => println!(rt; "{entries} entries, {reads} read, next {key}"),
-        None => println!(rt; "{entries} entries, {reads} read"),
-    }
-}
-
-pub fn print_told(rt: &impl Print, told: Told) -> io::Result<()> {
-    match told {
-        Told::Update(Ok(())) => println!(rt; "  update: accepted"),
-        Told::Query(Ok((Some(word), reads))) => println!(rt; "  query: {word}, {reads} read"),
-        Told::Query(Ok((None, reads))) => println!(rt; "  query: absent, {reads} read"),
-        Told::Page(Ok(page)) => {
-            print!(rt; "  page: ")?;
-            print_page(rt, page)
-        }
-        Told::Update(Err(fault)) => {
-            print!(rt; "  update: ")?;
-            print_fault(rt, fault)
-        }
-        Told::Query(Err(fault)) => {
-            print!(rt; "  query: ")?;
-            print_fault(rt, fault)
-        }
-        Told::Page(Err(fault)) => {
-            print!(rt; "  page: ")?;
-            print_fault(rt, fault)
+impl fmt::Display for Told {
+    fn fmt<W: fmt::Write>(&self, f: &mut fmt::Formatter<W>) -> fmt::Result {
+        match self {
+            Told::Update(Ok(())) => write!(f, "update: accepted"),
+            Told::Update(Err(fault)) => write!(f, "update: {}", Failed(*fault)),
+            Told::Query(Ok((Some(word), reads))) => write!(f, "query: {word}, {reads} read"),
+            Told::Query(Ok((None, reads))) => write!(f, "query: absent, {reads} read"),
+            Told::Query(Err(fault)) => write!(f, "query: {}", Failed(*fault)),
+            Told::Page(Ok(page)) => {
+                write!(f, "page: {} entries, {} read", page.entries, page.reads)?;
+                match page.next {
+                    Some(key) => write!(f, ", next {key}"),
+                    None => Ok(()),
+                }
+            }
+            Told::Page(Err(fault)) => write!(f, "page: {}", Failed(*fault)),
         }
     }
 }

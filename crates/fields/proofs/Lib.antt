@@ -3,4 +3,3 @@ pub mod Cut
 pub mod Lined
 pub mod Numerals
 pub mod Parted
-pub mod Turns

@@ -1,21 +1,44 @@
 // Hands out the fields of a line.
-ghost use Rattle.std.specs.Prelude.{◌≡◌};
+ghost use Rattle.std.specs.Prelude.{◌≡◌, ◌↔◌, [], IsTrue, IsSome};
+ghost use Rattle.std.specs.Iterator.{item_count};
 ghost use Rattle.fields.specs.Parts.{fields_of};
-ghost use Rattle.fields.specs.Handed.{fields_left, FieldHanded, is_none};
+ghost use Rattle.fields.specs.Handed.{fields_left, FieldHanded};
 ghost use Rattle.fields.specs.Laws.{Parted};
 ghost use Rattle.fields.specs.Taken.{first, rest, letter_in, amount_in, day_in, key_in};
 
-use crate::scan::find;
+use crate::scan::before;
 use crate::token::Token;
-
-// The greatest key.
-const GREATEST_KEY: u64 = 4294967295;
+use std::marker::Model;
 
 // A line, and the place where its next field starts: past the line's end once the last is handed out.
 #[derive(Drop)]
 pub struct LineReader<'a> {
     line: &'a [u8],
     place: usize,
+}
+
+impl<'a> Model for LineReader<'a> {
+    ghost use Rattle.fields.specs.Handed.{Cursor};
+
+    ghost Value = { Cursor };
+
+    ghost view = { λ s. record { line = s.line.now; place = s.place } };
+}
+
+// Each field comes told as letter, number or junk.
+impl<'a> Iterator for LineReader<'a> {
+    type Item = Token<'a>;
+
+    ghost next_gives = { FieldHanded };
+
+    ghost remaining = { item_count fields_left };
+
+    fn next(&mut self) -> Option<Token<'a>> {
+        let text = before(self.line.get(self.place..)?, b'\t');
+        let token = Token::tell(text, self.place);
+        self.place += text.len() + 1;
+        Some(token)
+    }
 }
 
 impl<'a> LineReader<'a> {
@@ -26,24 +49,18 @@ impl<'a> LineReader<'a> {
         LineReader { line, place: 0 }
     }
 
-    // The next field, told as letter, number or junk.
-    pub fn next_field(&mut self) -> Option<Token<'a>>
-        ensures { FieldHanded self.old result self.new }
-    {
-        if self.place > self.line.len() {
-            return None;
-        }
-        let end = find(self.line, self.place, b'\t');
-        let token = Token::tell(&self.line[self.place..end], self.place);
-        self.place = end + 1;
-        Some(token)
-    }
-
     // Whether no field is left.
     pub fn ended(&self) -> bool
-        ensures { result ≡ is_none (fields_left self.now) }
+        ensures { IsTrue result ↔ (fields_left self.now ≡ []) }
     {
         self.place > self.line.len()
+    }
+
+    // None where a field is left.
+    pub fn end(&self) -> Option<()>
+        ensures { IsSome result ↔ (fields_left self.now ≡ []) }
+    {
+        self.ended().then_some(())
     }
 
     // The next field, if it is a letter.
@@ -51,8 +68,8 @@ impl<'a> LineReader<'a> {
         ensures value { result ≡ letter_in (first (fields_left self.old)) }
         ensures left { fields_left self.new ≡ rest (fields_left self.old) }
     {
-        match self.next_field() {
-            Some(Token::Letter { letter, .. }) => Some(letter),
+        match self.next()? {
+            Token::Letter { letter, .. } => Some(letter),
             _ => None,
         }
     }
@@ -62,8 +79,8 @@ impl<'a> LineReader<'a> {
         ensures value { result ≡ amount_in (first (fields_left self.old)) }
         ensures left { fields_left self.new ≡ rest (fields_left self.old) }
     {
-        match self.next_field() {
-            Some(Token::Number { value, .. }) => Some(value),
+        match self.next()? {
+            Token::Number { value, .. } => Some(value),
             _ => None,
         }
     }
@@ -73,8 +90,7 @@ impl<'a> LineReader<'a> {
         ensures value { result ≡ day_in (first (fields_left self.old)) }
         ensures left { fields_left self.new ≡ rest (fields_left self.old) }
     {
-        let n = self.amount()?;
-        if n < 0 { None } else { Some(n as u64) }
+        u64::try_from(self.amount()?).ok()
     }
 
     // The next field, if it is a key.
@@ -82,11 +98,6 @@ impl<'a> LineReader<'a> {
         ensures value { result ≡ key_in (first (fields_left self.old)) }
         ensures left { fields_left self.new ≡ rest (fields_left self.old) }
     {
-        let n = self.day()?;
-        if n <= GREATEST_KEY {
-            Some(n as u32)
-        } else {
-            None
-        }
+        u32::try_from(self.day()?).ok()
     }
 }

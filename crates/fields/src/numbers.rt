@@ -13,10 +13,8 @@ fn digits(text: &[u8]) -> Option<u64>
 {
     let mut n: u64 = 0;
     for b in text {
-        if !b.is_ascii_digit() {
-            return None;
-        }
-        n = n * 10 + u64::from(*b - b'0');
+        let digit = char::from(*b).to_digit(10)?;
+        n = n * 10 + u64::from(digit);
     }
     Some(n)
 }
@@ -26,27 +24,22 @@ fn plain_number(text: &[u8]) -> Option<u64>
     ensures value { result ≡ plain text.now }
     ensures bound { IfSome result (λ n. n < 10 ^ 18) }
 {
-    if text.is_empty() || text.len() > MOST_DIGITS {
-        return None;
+    match text {
+        [] | [b'0', _, ..] => None,
+        _ if text.len() > MOST_DIGITS => None,
+        _ => digits(text),
     }
-    if text[0] == b'0' && text.len() > 1 {
-        return None;
-    }
-    digits(text)
 }
 
 // The number of a field, maybe with one minus; -0 is none.
 pub(crate) fn number_in(text: &[u8]) -> Option<i64>
     ensures value { result ≡ number_in text.now }
 {
-    if !text.is_empty() && text[0] == b'-' {
-        let (_, rest) = text.split_at(1);
-        let n = plain_number(rest)?;
-        if n == 0 {
-            return None;
+    match text {
+        [b'-', rest @ ..] => {
+            let n = plain_number(rest)?;
+            if n == 0 { None } else { Some(-(n as i64)) }
         }
-        return Some(-(n as i64));
+        _ => Some(plain_number(text)? as i64),
     }
-    let n = plain_number(text)?;
-    Some(n as i64)
 }

@@ -1,18 +1,11 @@
-// The next mark among bytes.
-ghost use Rattle.std.specs.Prelude.{◌≡◌, ◌+◌, ◌≤◌, length, drop};
+// The part before the next mark.
+ghost use Rattle.std.specs.Prelude.{◌≡◌};
 ghost use Rattle.fields.specs.Parts.{before};
 
-// The place of the first mark from a place on, or the end.
-pub(crate) fn find(bytes: &[u8], from: usize, mark: u8) -> usize
-    requires { from ≤ length bytes.now }
-    ensures value { result ≡ from + length (before mark (drop from bytes.now)) }
-    ensures within { result ≤ length bytes.now }
-    ensures forward { from ≤ result }
+// The bytes before the first mark, all where there is none.
+pub(crate) fn before(bytes: &[u8], mark: u8) -> &[u8]
+    ensures { result.now ≡ before mark bytes.now }
 {
-    for i in from..bytes.len() {
-        if bytes[i] == mark {
-            return i;
-        }
-    }
-    bytes.len()
+    let end = bytes.iter().position(|b| *b == mark);
+    &bytes[..end.unwrap_or(bytes.len())]
 }

@@ -32,24 +32,16 @@ impl<'a> Token<'a> {
         ensures part { text_of result ≡ text.now }
         ensures at { place_of result ≡ place }
     {
-        token_of(text, place)
-    }
-}
-
-fn token_of(text: &[u8], place: usize) -> Token<'_>
-    ensures sort { told_of result ≡ told text.now }
-    ensures part { text_of result ≡ text.now }
-    ensures at { place_of result ≡ place }
-{
-    if text.len() == 1 && text[0].is_ascii_alphabetic() {
-        return Token::Letter {
-            text,
-            place,
-            letter: char::from(text[0]),
-        };
-    }
-    match number_in(text) {
-        Some(value) => Token::Number { text, place, value },
-        None => Token::Junk { text, place },
+        match text {
+            [letter] if letter.is_ascii_alphabetic() => Token::Letter {
+                text,
+                place,
+                letter: char::from(*letter),
+            },
+            _ => match number_in(text) {
+                Some(value) => Token::Number { text, place, value },
+                None => Token::Junk { text, place },
+            },
+        }
     }
 }

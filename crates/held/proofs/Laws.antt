@@ -2,7 +2,7 @@
 use Rattle.std.proofs.Common.{◌≡◌, ℕ, List, None, ap}
 use Rattle.messages.specs.Algebra.{Algebra}
 use Rattle.nodes.proofs.RoundTrips.{node_back}
-use Rattle.node_ops.specs.CodeOf.{number_of_rule, encode_of, fault_of, pivots_at, children_at, messages_at, records_at, code_of}
+use Rattle.node_ops.specs.CodeOf.{encode_of, fault_of, pivots_at, children_at, messages_at, records_at, code_of}
 use Rattle.plan.specs.Codes.{decoded}
 use Rattle.tree.specs.Nodes.{Node, node, next_free}
 use Rattle.bridge.specs.Stored.{FitsBlock}
@@ -15,7 +15,7 @@ use Rattle.held.proofs.Fits.{node_fits}
 module _ (K : Algebra) (a : List Node) (b : ℕ) (f : FitsBlock a b) where
   not_refused : fault_of K (node a b).frame.level (node a b).frame.low (node a b).frame.high (next_free a) (encode_of K (node a b)) ≡ None
   unfolding encode_of fault_of
-  not_refused = ap number_of_rule (node_back (place_of K a b) (node a b) (node_fits a b f K)).0
+  not_refused = (node_back (place_of K a b) (node a b) (node_fits a b f K)).0
 
   read_back : decoded (code_of K) (node a b).frame.level (node a b).frame.low (node a b).frame.high (encode_of K (node a b)) ≡ node a b
   unfolding encode_of pivots_at children_at messages_at records_at

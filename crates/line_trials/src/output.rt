@@ -58,25 +58,27 @@ const ANSWERS: [Answer; 10] = [
 
 const NOTHING: Reading = Reading {
     stands: false,
-    updates: 0,
-    height: 0,
-    tree_writes: 0,
+    figures: Figures {
+        updates: 0,
+        height: 0,
+        tree_writes: 0,
+    },
     reads: 0,
     writes: 0,
 };
 
 // Each call with its answer.
 fn trace_of(heap: Global, calls: &[Call]) -> Result<Vec<Point>, AllocError> {
-    let mut trace = Vec::new(heap);
-    for (call, answer) in calls.iter().zip(ANSWERS.iter()) {
-        trace.push(Point {
+    calls
+        .iter()
+        .zip(ANSWERS.iter())
+        .map(|(call, answer)| Point {
             call: *call,
             answer: *answer,
             stock: NOTHING,
             day: NOTHING,
-        })?;
-    }
-    Ok(trace)
+        })
+        .collect(heap)
 }
 
 #[test]

@@ -16,38 +16,30 @@ fn lines_end_with_lf_or_the_end(rt: HostRuntime) {
 
 // The lengths of the first three lines.
 fn lengths(input: &[u8]) -> [Option<usize>; 3] {
-    let mut lines = Lines::new(input);
-    let first = next_length(&mut lines);
-    let second = next_length(&mut lines);
-    let third = next_length(&mut lines);
-    [first, second, third]
-}
-
-fn next_length(lines: &mut Lines) -> Option<usize> {
-    let line = lines.next_line()?;
-    Some(line.len())
+    let mut lines = Lines::new(input).map(|line| line.len());
+    [lines.next(), lines.next(), lines.next()]
 }
 
 #[test]
 fn fields_have_places(rt: HostRuntime) -> Result<(), Fail> {
     let mut fields = LineReader::new(b"b\t\t-12");
-    let Some(Token::Letter { letter, place, .. }) = fields.next_field() else {
+    let Some(Token::Letter { letter, place, .. }) = fields.next() else {
         return Err(Fail::new("no letter"));
     };
     assert_eq!(rt; letter, 'b');
     assert_eq!(rt; place, 0);
-    let Some(Token::Junk { text, place }) = fields.next_field() else {
+    let Some(Token::Junk { text, place }) = fields.next() else {
         return Err(Fail::new("no junk"));
     };
     assert_eq!(rt; text.len(), 0);
     assert_eq!(rt; place, 2);
-    let Some(Token::Number { text, value, place }) = fields.next_field() else {
+    let Some(Token::Number { text, value, place }) = fields.next() else {
         return Err(Fail::new("no number"));
     };
     assert_eq!(rt; value, -12);
     assert_eq!(rt; place, 3);
     assert_eq!(rt; text.len(), 3);
     assert!(rt; fields.ended());
-    assert!(rt; fields.next_field().is_none());
+    assert!(rt; fields.next().is_none());
     Ok(())
 }

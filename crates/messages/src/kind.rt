@@ -6,7 +6,7 @@ ghost use Rattle.messages.specs.Algebra.{Algebra};
 pub trait Kind {
     ghost algebra: { Algebra };
 
-    // The number by which blocks name the kind.
+    // The number by which blocks name the kind. No enum, since kinds are open.
     fn number() -> u8
         ensures { result ≡ algebra.number };
 

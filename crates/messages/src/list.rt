@@ -12,7 +12,8 @@ use crate::span::Span;
 // How many messages move from a node to its child at once, at most.
 pub const MOST_MOVING: usize = 16;
 
-// How many entries at the front have a key below `key`, in any list: where keys rise, the place of `key`.
+// How many entries at the front have a key below `key`, in any list: where keys rise, the place of `key`. A loop in place of
+// `take_while(..).count()`, since only a key that it reads is known to be below 4294967296, as `all` needs.
 pub fn place_of<V>(entries: &[Entry<V>], key: u64) -> usize
     ensures value { result ≡ below key entries.now }
     ensures within { result ≤ length entries.now }
@@ -59,9 +60,7 @@ pub fn join_message<K: Kind>(messages: &mut Vec<Entry<Message>>, arriving: Entry
                 value: held.fold::<K>(arriving.value),
             };
         }
-        None => {
-            let _ = messages.insert(place, arriving);
-        }
+        None => messages.insert(place, arriving).unwrap(),
     }
 }
 
@@ -80,9 +79,7 @@ pub fn apply_message<K: Kind>(records: &mut Vec<Entry<u64>>, message: Entry<Mess
         (Some(_), None) => {
             records.remove(place);
         }
-        (None, Some(value)) => {
-            let _ = records.insert(place, Entry { key, value });
-        }
+        (None, Some(value)) => records.insert(place, Entry { key, value }).unwrap(),
         (None, None) => {}
     }
 }
@@ -103,7 +100,8 @@ pub fn take_batch(messages: &mut Vec<Entry<Message>>, span: Span, out: &mut Vec<
         .min(MOST_MOVING);
     let next = first + count;
     let len = messages.len();
-    let _ = out.extend_from_slice(&messages[first..next]);
+    out.extend_from_slice(&messages[first..next]).unwrap();
+    // `drain` would take twice as long: it turns the messages behind the batch round.
     messages.copy_within(next..len, first);
     messages.truncate(len - count);
 }

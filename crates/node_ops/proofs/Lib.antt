@@ -1,3 +1,4 @@
 pub mod Largest
 pub mod Crowded
 pub mod Slices
+mod Front

@@ -1,36 +1,25 @@
 -- How the nodes of a store of a kind stand in blocks, as the plan of an update sees it.
-use Rattle.std.specs.Prelude.{ℕ, cond, List, [], Some, None, Ok, Err, Option, Result, ◌==◌}
+use Rattle.std.specs.Prelude.{ℕ, cond, List, [], Option, ◌==◌}
 use Rattle.messages.specs.Algebra.{Algebra}
 use Rattle.messages.specs.declared.entry.Entry.{Entry}
 use Rattle.messages.specs.declared.message.Message.{Message}
 use Rattle.nodes.specs.Blocks.{node_block, header_of, pivots_of, children_of, messages_of, records_of}
 use Rattle.nodes.specs.Checks.{node_fault}
-use Rattle.rules.specs.Rules.{rule_number}
 use Rattle.rules.specs.declared.place.Place.{Place}
 use Rattle.rules.specs.declared.rule.Rule.{Rule}
 use Rattle.plan.specs.Codes.{Code}
 use Rattle.tree.specs.Nodes.{Node}
 
 abbrev pub place_at : ℕ → ℕ → ℕ → ℕ → ℕ → Place
-place_at level low high kind next = record { level = level; low = low; high = high; kind = kind; next_free = next }
-
--- the number of a rule, if one is broken
-abbrev pub number_of_rule : Option Rule → Option ℕ
-number_of_rule None = None
-number_of_rule (Some rule) = Some (rule_number rule)
-
--- the same of the result of a reading
-abbrev pub number_of_error : {T : Type 0} → Result T Rule → Option ℕ
-number_of_error (Ok _) = None
-number_of_error (Err rule) = Some (rule_number rule)
+place_at level low high kind next = record { level = level; span = record { low = low; high = high }; kind = kind; next_free = next }
 
 -- what the store of a kind writes for a node, which rule a block breaks first, and what its tables say: shut, so that proofs about the
 -- steps do not look into blocks
 unfoldable pub encode_of : Algebra → Node → List ℕ
 encode_of K x = node_block K.number x
 
-unfoldable pub fault_of : Algebra → ℕ → ℕ → ℕ → ℕ → List ℕ → Option ℕ
-fault_of K level low high next bs = number_of_rule (node_fault (place_at level low high K.number next) bs)
+unfoldable pub fault_of : Algebra → ℕ → ℕ → ℕ → ℕ → List ℕ → Option Rule
+fault_of K level low high next bs = node_fault (place_at level low high K.number next) bs
 
 unfoldable pub pivots_at : ℕ → List ℕ → List ℕ
 pivots_at level bs = cond (level == 0) [] (pivots_of (header_of bs) bs)

@@ -6,20 +6,20 @@ ghost use Rattle.nodes.specs.Views.{view};
 use messages::entry::Entry;
 use messages::list::place_of;
 use messages::message::Message;
+use messages::span::Span;
 use nodes::node::Node;
 
-// How many messages have a key from `low` on and below `high`, where keys rise.
-pub fn pending_in(messages: &[Entry<Message>], low: u64, high: u64) -> usize
-    ensures { result ≡ pending low high messages.now }
+// How many messages have a key of a span, where keys rise.
+pub fn pending_in(messages: &[Entry<Message>], span: Span) -> usize
+    ensures { result ≡ pending span.low span.high messages.now }
 {
-    place_of(messages, high).saturating_sub(place_of(messages, low))
+    let first = place_of(messages, u64::from(span.low));
+    place_of(messages, span.high).saturating_sub(first)
 }
 
-// Whether more of a parent's messages are pending from `middle` on than below it, in the span of a child.
-pub fn upper_has_more(parent: &Node, low: u32, middle: u32, high: u64) -> bool
-    ensures { result ≡ nat_lt (pending low middle (view parent.now).messages) (pending middle high (view parent.now).messages) }
+// Whether more of a parent's messages are pending for the upper half of a child than for the lower.
+pub fn upper_has_more(parent: &Node, lower: Span, upper: Span) -> bool
+    ensures { result ≡ nat_lt (pending lower.low lower.high (view parent.now).messages) (pending upper.low upper.high (view parent.now).messages) }
 {
-    let middle = u64::from(middle);
-    pending_in(&parent.messages, u64::from(low), middle)
-        < pending_in(&parent.messages, middle, high)
+    pending_in(&parent.messages, lower) < pending_in(&parent.messages, upper)
 }

@@ -2,13 +2,14 @@
 #![tactic(auto)]
 
 ghost use Rattle.std.specs.Prelude.{◌≡◌};
-ghost use Rattle.node_trials.specs.Trials.{changed, told};
-ghost use Rattle.nodes.specs.Checks.{node_fault, root_fault};
+ghost use Rattle.node_trials.specs.Trials.{changed};
 
+use messages::span::Span;
 use nodes::node::Node;
 use nodes::root::Root;
 use rules::limits::BLOCK_SIZE;
 use rules::place::Place;
+use rules::rule::Rule;
 use std::io;
 use tables::{Change, INNER, INNER_TRIALS, LEAF, LEAF_TRIALS, ROOT, ROOT_TRIALS, Trial};
 
@@ -21,107 +22,71 @@ const SIZE: u32 = 64;
 fn change(block: &mut [u8; BLOCK_SIZE], changes: &[Change])
     ensures { block.new ≡ changed changes.now block.old }
 {
-    for c in changes {
-        if c.place < BLOCK_SIZE {
-            block[c.place] = c.byte;
+    for Change(place, byte) in changes {
+        if *place < BLOCK_SIZE {
+            block[*place] = *byte;
         }
     }
 }
 
-// The number of the rule that a node's block breaks first, or 0.
-fn rule_of_node(node: &mut Node, place: &Place, block: &[u8; BLOCK_SIZE]) -> u8
-    ensures { result ≡ told (node_fault place.now block.now) }
-{
-    match node.read(place, block) {
-        Ok(()) => 0,
-        Err(rule) => rule.number(),
-    }
-}
-
-// The number of the rule that block 0 breaks first, or 0.
-fn rule_of_root(root: &mut Root, block: &[u8; BLOCK_SIZE]) -> u8
-    ensures { result ≡ told (root_fault 64 block.now) }
-{
-    match root.read(SIZE, block) {
-        Ok(_) => 0,
-        Err(rule) => rule.number(),
-    }
-}
-
-// Prints the bytes that were changed with the rule that was told, and gives whether it is the one expected.
-fn report(rt: &impl Print, subject: &str, trial: &Trial, rule: u8) -> io::Result<bool> {
-    let [first, second] = trial.changes;
-    print!(rt; "{subject}, byte {} is {}", first.place, first.byte)?;
-    if second != first {
-        print!(rt; ", byte {} is {}", second.place, second.byte)?;
-    }
-    if rule == 0 {
-        println!(rt; ": good")?;
-    } else {
-        println!(rt; ": rule {rule}")?;
-    }
-    Ok(rule == trial.rule)
-}
-
-// Tries each change of a good node's block at its place, and counts those that give the rule expected.
-fn try_nodes(
+// Prints the bytes that were changed, with the rule that the block breaks.
+fn report(
     rt: &impl Print,
     subject: &str,
-    node: &mut Node,
-    place: &Place,
-    good: &[Change],
-    trials: &[Trial],
-) -> io::Result<usize> {
-    let mut expected = 0usize;
-    for trial in trials {
-        let mut block = [0u8; BLOCK_SIZE];
-        change(&mut block, good);
-        change(&mut block, &trial.changes);
-        if report(rt, subject, trial, rule_of_node(node, place, &block))? {
-            expected = expected.saturating_add(1);
-        }
+    changes: &[Change],
+    outcome: Result<(), Rule>,
+) -> io::Result<()> {
+    print!(rt; "{subject}")?;
+    for Change(place, byte) in changes {
+        print!(rt; ", byte {place} is {byte}")?;
     }
-    Ok(expected)
+    match outcome {
+        Ok(()) => println!(rt; ": good"),
+        Err(rule) => println!(rt; ": rule {}", rule.number()),
+    }
 }
 
-// The same of the root's block.
-fn try_roots(rt: &impl Print, root: &mut Root) -> io::Result<usize> {
-    let mut expected = 0usize;
-    for trial in &ROOT_TRIALS {
+// Tries each change of a good block, prints what `read` says of it, and counts those that are as expected.
+fn try_blocks<F: FnMut(&[u8; BLOCK_SIZE]) -> Result<(), Rule>>(
+    rt: &impl Print,
+    subject: &str,
+    good: &[Change],
+    trials: &[Trial],
+    mut read: F,
+) -> io::Result<usize>
+    requires { F.IsAlwaysCallable read }
+{
+    let mut as_expected = 0;
+    for Trial(changes, expected) in trials {
         let mut block = [0u8; BLOCK_SIZE];
-        change(&mut block, &ROOT);
-        change(&mut block, &trial.changes);
-        if report(rt, "root", trial, rule_of_root(root, &block))? {
-            expected = expected.saturating_add(1);
-        }
+        change(&mut block, good);
+        change(&mut block, changes);
+        let outcome = read(&block);
+        report(rt, subject, changes, outcome)?;
+        as_expected += usize::from(outcome == *expected);
     }
-    Ok(expected)
+    Ok(as_expected)
 }
 
 fn main(rt: HostRuntime) -> io::Result<()> {
     let mut node = Node::new(rt.alloc())?;
     let mut root = Root::new(rt.alloc(), 1)?;
-    let leaf_place = Place {
+    let leaf = Place {
         level: 0,
-        low: 0,
-        high: 100,
+        span: Span { low: 0, high: 100 },
         kind: 1,
         next_free: 20,
     };
-    let inner_place = Place {
-        level: 1,
-        ..leaf_place
-    };
-    let leaves = try_nodes(&rt, "leaf", &mut node, &leaf_place, &LEAF, &LEAF_TRIALS)?;
-    let inners = try_nodes(
-        &rt,
-        "inner node",
-        &mut node,
-        &inner_place,
-        &INNER,
-        &INNER_TRIALS,
-    )?;
-    let roots = try_roots(&rt, &mut root)?;
+    let inner = Place { level: 1, ..leaf };
+    let leaves = try_blocks(&rt, "leaf", &LEAF, &LEAF_TRIALS, |block| {
+        node.read(&leaf, block)
+    })?;
+    let inners = try_blocks(&rt, "inner node", &INNER, &INNER_TRIALS, |block| {
+        node.read(&inner, block)
+    })?;
+    let roots = try_blocks(&rt, "root", &ROOT, &ROOT_TRIALS, |block| {
+        root.read(SIZE, block).and(Ok(()))
+    })?;
     let all = LEAF_TRIALS.len() + INNER_TRIALS.len() + ROOT_TRIALS.len();
     let expected = leaves.saturating_add(inners).saturating_add(roots);
     println!(rt; "{all} blocks, {expected} as expected")

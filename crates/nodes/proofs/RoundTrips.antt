@@ -1,5 +1,5 @@
 -- Both round trips of nodes and of the root.
-use Rattle.std.proofs.Common.{◌≡◌, ℕ, suc, ◌^◌, ◌<◌, ◌≤◌, Bool, true, false, cond, ◌&&◌, eqb, ltb, leb, List, [], ◌∷◌, ◌++◌, length, get_or, take, Some, None, Ok, Result, sym, refl, ap, ◌∙◌, subst, ⊎_elim, arith, take-append-drop}
+use Rattle.std.proofs.Common.{◌≡◌, ℕ, suc, ◌^◌, ◌<◌, ◌≤◌, Bool, true, false, cond, ◌&&◌, eqb, ltb, leb, List, [], ◌∷◌, ◌++◌, length, get_or, take, Some, None, sym, refl, ap, ◌∙◌, subst, ⊎_elim, arith, take-append-drop}
 use Rattle.std.proofs.lemmas.Bool.{and_parts, and_from, eqb-true, leb-true, eqb-false, eq-eqb, le-leb, lt-ltb, ltb-true, cases_eq}
 use Rattle.rows.specs.Bytes.{Bytes}
 use Rattle.tree.specs.Nodes.{Node}
@@ -11,13 +11,12 @@ use Rattle.rules.specs.declared.rule.Rule.{Rule}
 use Rattle.rules.specs.declared.rule.Rule.TheVariants.{Level, Mark as MarkRule, Count, Children, Kind, HeaderNumbers}
 use Rattle.nodes.specs.Blocks.{tables_of, header_below, node_block, header_of, node_of}
 use Rattle.nodes.specs.Checks.{table_rules, node_fault, root_fault}
-use Rattle.rules.specs.HeaderRules.{header_rules, root_header_rules, root_place, children_fit, root_children_fit, within, verdict}
+use Rattle.rules.specs.HeaderRules.{header_rules, root_header_rules, root_place, children_fit, root_children_fit, within}
 use Rattle.rules.specs.Headers.{header_coding}
 use Rattle.nodes.specs.Laws.{Block, GoodNode, GoodRoot, place_of_root, NodeBlocksRoundTrip, RootBlocksRoundTrip}
 use Rattle.rules.specs.Marks.{mark_of, mark_number}
 use Rattle.nodes.specs.Roots.{Root, root_header, root_block, root_by, root_of}
 use Rattle.rules.specs.Rules.{first_broken}
-use Rattle.rules.proofs.Verdicts.{verdict_ok}
 use Rattle.nodes.proofs.Loaded.{first_none}
 use Rattle.nodes.proofs.TablesBack.{all_passed, tables_back, tables_forth, unused_forth, count_forth, children_forth, fits_forth}
 
@@ -260,9 +259,8 @@ all_bytes : (bs : List ℕ) → ((i : ℕ) → get_or bs i 0 < 256) → Bytes bs
 all_bytes [] f = tt
 all_bytes (b ∷ bs) f = (f 0, all_bytes bs (λ i. f (suc i)))
 
-pub node_exact : (p : Place) (bs : List ℕ) (x : Node) → length bs ≡ 4096 → ((i : ℕ) → get_or bs i 0 < 256) → ◌≡◌ {A = Result (Unit {0}) Rule} (Ok tt) (verdict tt (node_fault p bs)) → x ≡ node_of p (header_of bs) bs → bs ≡ node_block p.kind x
-node_exact p bs x long bytes ok is = sym (block_back p bs (long, all_bytes bs bytes) (verdict_ok (tt {0}) (tt {0}) (node_fault p bs) ok)) ∙ ap (node_block p.kind) (sym is)
+pub node_exact : (p : Place) (bs : List ℕ) (x : Node) → length bs ≡ 4096 → ((i : ℕ) → get_or bs i 0 < 256) → node_fault p bs ≡ None → x ≡ node_of p (header_of bs) bs → bs ≡ node_block p.kind x
+node_exact p bs x long bytes good is = sym (block_back p bs (long, all_bytes bs bytes) good) ∙ ap (node_block p.kind) (sym is)
 
-pub root_exact : (size : ℕ) (bs : List ℕ) (mark : Mark) (x : Root) → length bs ≡ 4096 → ((i : ℕ) → get_or bs i 0 < 256) → Ok mark ≡ verdict (mark_of (header_of bs).mark) (root_fault size bs) → mark ≡ mark_of (header_of bs).mark → x ≡ root_of bs → bs ≡ root_block mark x
-root_exact size bs mark x long bytes ok marked is =
-    sym (root_block_back size bs (long, all_bytes bs bytes) (verdict_ok (mark_of (header_of bs).mark) mark (root_fault size bs) ok)) ∙ (λ i. root_block (sym marked i) (sym is i))
+pub root_exact : (size : ℕ) (bs : List ℕ) (mark : Mark) (x : Root) → length bs ≡ 4096 → ((i : ℕ) → get_or bs i 0 < 256) → root_fault size bs ≡ None → mark ≡ mark_of (header_of bs).mark → x ≡ root_of bs → bs ≡ root_block mark x
+root_exact size bs mark x long bytes good marked is = sym (root_block_back size bs (long, all_bytes bs bytes) good) ∙ (λ i. root_block (sym marked i) (sym is i))

@@ -71,8 +71,8 @@ module _ (p : Place) (x : Node) (good : FitsPlace p x) (h : Header) (front : Lis
       let at : between 32 4096 bs ≡ t = ap (λ l. take 4064 (drop 32 (front ++ l))) (rw zero_level refl) ∙ ap (take 4064) (drop_at front t 32 before) ∙ take_all 4064 t (omega arith) in
       let n : h.count ≡ length xs = count ∙ rw zero_level refl in
       let values : records_of h bs ≡ xs = (λ i. values_of record_coding (n i) (at i)) ∙ values_back record_coding xs (replicate (4064 - length (rows_of record_coding xs)) 0) good.records_fit in
-      let order : rows_in_order record_coding (λ e. e.key) (λ row. true) p.low p.high h.count (between 32 4096 bs) ≡ true
-      = and_from _ _ (ap (λ l. rising p.low p.high (map (λ e. e.key) l)) values ∙ good.records_rise) (any_row 12 h.count (between 32 4096 bs)) in
+      let order : rows_in_order record_coding (λ row. true) p.span.low p.span.high h.count (between 32 4096 bs) ≡ true
+      = and_from _ _ (ap (λ l. rising p.span.low p.span.high (map (λ e. e.key) l)) values ∙ good.records_rise) (any_row 12 h.count (between 32 4096 bs)) in
       let ends : all_zero (drop (12 * h.count) (between 32 4096 bs)) ≡ true = (λ i. all_zero (drop (12 * n i) (at i))) ∙ table_end record_coding 4064 xs in
       let exact : (unused_zero h && rows_exact record_coding (λ row. true) h.count (between 32 4096 bs)) ≡ true = and_from _ _ unused (and_from _ _ (any_row 12 h.count (between 32 4096 bs)) ends) in
       let plain = good.leaf_plain leaf in (
@@ -118,10 +118,10 @@ module _ (p : Place) (x : Node) (good : FitsPlace p x) (h : Header) (front : Lis
       = (λ i. all_rows known_row 13 (nm i) (at3 i)) ∙ all_rows_pass message_entry_coding known_row (λ e more f. known_encoded e.key e.value more) ms (replicate (4004 - length (rows_of message_entry_coding ms)) 0) good.messages_fit in
       let exact_rows : all_rows exact_row 13 h.count (between 92 4096 bs) ≡ true
       = (λ i. all_rows exact_row 13 (nm i) (at3 i)) ∙ all_rows_pass message_entry_coding exact_row (λ e more f. exact_encoded e.key e.value more) ms (replicate (4004 - length (rows_of message_entry_coding ms)) 0) good.messages_fit in
-      let rise : rising p.low p.high (pivots_of h bs) ≡ true = ap (rising p.low p.high) pivots ∙ good.pivots_rise in
+      let rise : rising p.span.low p.span.high (pivots_of h bs) ≡ true = ap (rising p.span.low p.span.high) pivots ∙ good.pivots_rise in
       let range : numbers_below p.next_free (children_of h bs) ≡ true = ap (numbers_below p.next_free) child_numbers ∙ good.children_below in
-      let order : rows_in_order message_entry_coding (λ e. e.key) known_row p.low p.high h.count (between 92 4096 bs) ≡ true
-      = and_from _ _ (ap (λ l. rising p.low p.high (map (λ e. e.key) l)) messages ∙ good.messages_rise) known_rows in
+      let order : rows_in_order message_entry_coding known_row p.span.low p.span.high h.count (between 92 4096 bs) ≡ true
+      = and_from _ _ (ap (λ l. rising p.span.low p.span.high (map (λ e. e.key) l)) messages ∙ good.messages_rise) known_rows in
       let end1 : all_zero (drop (4 * (h.children - 1)) (between 32 60 bs)) ≡ true = (λ i. all_zero (drop (4 * np i) (at1 i))) ∙ table_end (number 4) 28 ps in
       let end2 : all_zero (drop (4 * h.children) (between 60 92 bs)) ≡ true = (λ i. all_zero (drop (4 * children i) (at2 i))) ∙ table_end (number 4) 32 cs in
       let end3 : all_zero (drop (13 * h.count) (between 92 4096 bs)) ≡ true = (λ i. all_zero (drop (13 * nm i) (at3 i))) ∙ table_end message_entry_coding 4004 ms in
@@ -198,7 +198,7 @@ module _ (p : Place) (h : Header) (bs : List ℕ) (block : Block bs) (few : h.co
   leaf_fits leaf =
       let zero_level = eq-eqb p.level 0 leaf in
       let t = all_passed (leaf_rules p h bs) (subst (λ (b : Bool). first_broken (cond b (leaf_rules p h bs) (inner_rules p h bs)) ≡ None) zero_level fine) in
-      let x : Node = record { frame = record { level = p.level; low = p.low; high = p.high; pivots = []; children = [] }; messages = []; records = records_of h bs } in
+      let x : Node = record { frame = record { level = p.level; low = p.span.low; high = p.span.high; pivots = []; children = [] }; messages = []; records = records_of h bs } in
       let is : x ≡ node_of p h bs = rw zero_level refl in
       let many = length_values record_coding h.count (between 32 4096 bs) in
       let good : FitsPlace p x
@@ -214,7 +214,7 @@ module _ (p : Place) (h : Header) (bs : List ℕ) (block : Block bs) (few : h.co
         pivots_rise = refl;
         children_below = refl;
         messages_rise = refl;
-        records_rise = (and_parts (rising p.low p.high (map (λ e. e.key) (records_of h bs))) _ t.0).0;
+        records_rise = (and_parts (rising p.span.low p.span.high (map (λ e. e.key) (records_of h bs))) _ t.0).0;
         pivots_fit = tt;
         children_fit = tt;
         messages_fit = tt;
@@ -228,7 +228,7 @@ module _ (p : Place) (h : Header) (bs : List ℕ) (block : Block bs) (few : h.co
       let above : 0 < p.level = omega (arith, inner) in
       let eight = shape above in
       let t = all_passed (inner_rules p h bs) (subst (λ (b : Bool). first_broken (cond b (leaf_rules p h bs) (inner_rules p h bs)) ≡ None) not_zero fine) in
-      let x : Node = record { frame = record { level = p.level; low = p.low; high = p.high; pivots = pivots_of h bs; children = children_of h bs }; messages = messages_of h bs; records = [] } in
+      let x : Node = record { frame = record { level = p.level; low = p.span.low; high = p.span.high; pivots = pivots_of h bs; children = children_of h bs }; messages = messages_of h bs; records = [] } in
       let is : x ≡ node_of p h bs = rw not_zero refl in
       let many = length_values message_entry_coding h.count (between 92 4096 bs) in
       let pivots = length_values (number 4) (h.children - 1) (between 32 60 bs) in
@@ -245,7 +245,7 @@ module _ (p : Place) (h : Header) (bs : List ℕ) (block : Block bs) (few : h.co
         pivots_between = λ e. omega (arith, pivots, child_numbers, eight.0);
         pivots_rise = t.0;
         children_below = t.1.0;
-        messages_rise = (and_parts (rising p.low p.high (map (λ e. e.key) (messages_of h bs))) _ t.1.1.0).0;
+        messages_rise = (and_parts (rising p.span.low p.span.high (map (λ e. e.key) (messages_of h bs))) _ t.1.1.0).0;
         records_rise = refl;
         pivots_fit = values_fit (number 4) (h.children - 1) (between 32 60 bs) (bytes_at 32 28);
         children_fit = values_fit (number 4) h.children (between 60 92 bs) (bytes_at 60 32);

@@ -62,8 +62,8 @@ abbrev pub node_of : Place → Header → List ℕ → Node
 node_of p h bs = record {
   frame = record {
     level = p.level;
-    low = p.low;
-    high = p.high;
+    low = p.span.low;
+    high = p.span.high;
     pivots = cond (p.level == 0) [] (pivots_of h bs);
     children = cond (p.level == 0) [] (children_of h bs);
   };

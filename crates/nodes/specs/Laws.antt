@@ -21,8 +21,8 @@ Block bs = (length bs ≡ 4096) × Bytes bs
 -- what a node has to hold at a place for its tables to break no rule
 pub record FitsPlace (p : Place) (x : Node) : Type 0 where
   pub level_is : x.frame.level ≡ p.level
-  pub low_is : x.frame.low ≡ p.low
-  pub high_is : x.frame.high ≡ p.high
+  pub low_is : x.frame.low ≡ p.span.low
+  pub high_is : x.frame.high ≡ p.span.high
   -- at most 256 messages or records, and 8 children
   pub few : count_of x ≤ 256
   pub few_children : length x.frame.children ≤ 8
@@ -31,10 +31,10 @@ pub record FitsPlace (p : Place) (x : Node) : Type 0 where
   pub inner_plain : 0 < p.level → x.records ≡ []
   pub pivots_between : 0 < p.level → length x.frame.pivots + 1 ≡ length x.frame.children
   -- pivots and keys rise strictly, inside the span, and child numbers are in range
-  pub pivots_rise : rising p.low p.high x.frame.pivots ≡ true
+  pub pivots_rise : rising p.span.low p.span.high x.frame.pivots ≡ true
   pub children_below : numbers_below p.next_free x.frame.children ≡ true
-  pub messages_rise : rising p.low p.high (map (λ e. e.key) x.messages) ≡ true
-  pub records_rise : rising p.low p.high (map (λ e. e.key) x.records) ≡ true
+  pub messages_rise : rising p.span.low p.span.high (map (λ e. e.key) x.messages) ≡ true
+  pub records_rise : rising p.span.low p.span.high (map (λ e. e.key) x.records) ≡ true
   -- numbers fit their width
   pub pivots_fit : AllByRecursion (λ n. (number 4).fits n ≡ true) x.frame.pivots
   pub children_fit : AllByRecursion (λ n. (number 4).fits n ≡ true) x.frame.children
@@ -50,7 +50,7 @@ pub record GoodNode (p : Place) (x : Node) : Type 0 where
 
 -- where a root stands
 abbrev pub place_of_root : Root → Place
-place_of_root x = record { level = x.node.frame.level; low = 0; high = 4294967296; kind = x.kind; next_free = x.next_free }
+place_of_root x = record { level = x.node.frame.level; span = record { low = 0; high = 4294967296 }; kind = x.kind; next_free = x.next_free }
 
 -- a root that breaks no rule on a device of a size
 pub record GoodRoot (size : ℕ) (x : Root) : Type 0 where

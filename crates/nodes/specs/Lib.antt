@@ -3,3 +3,4 @@ pub mod Blocks
 pub mod Checks
 pub mod Roots
 pub mod Laws
+pub mod Shapes

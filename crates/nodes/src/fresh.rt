@@ -7,7 +7,8 @@ ghost use Rattle.nodes.specs.Views.{view};
 
 use crate::node::Node;
 use crate::root::Root;
-use rules::limits::{FIRST_FREE, KEYS_END, MOST_CHILDREN, MOST_ENTRIES, MOST_MESSAGES};
+use messages::span::Span;
+use rules::limits::{ALL_KEYS, FIRST_FREE, MOST_CHILDREN, MOST_ENTRIES, MOST_MESSAGES};
 use std::alloc::{AllocError, Global};
 
 impl Node {
@@ -17,8 +18,7 @@ impl Node {
     {
         Ok(Node {
             level: 0,
-            low: 0,
-            high: 0,
+            span: Span { low: 0, high: 0 },
             pivots: Vec::with_capacity(heap, MOST_CHILDREN as usize - 1)?,
             children: Vec::with_capacity(heap, MOST_CHILDREN as usize)?,
             messages: Vec::with_capacity(heap, MOST_MESSAGES)?,
@@ -26,13 +26,12 @@ impl Node {
         })
     }
 
-    // Empties the node, and makes it a leaf for the keys from `low` to just below `high`.
-    pub fn make_leaf(&mut self, low: u32, high: u64)
-        ensures { view self.new ≡ empty_leaf low high }
+    // Empties the node, and makes it a leaf for the keys of a span.
+    pub fn make_leaf(&mut self, span: Span)
+        ensures { view self.new ≡ empty_leaf span.low span.high }
     {
         self.level = 0;
-        self.low = low;
-        self.high = high;
+        self.span = span;
         self.pivots.clear();
         self.children.clear();
         self.messages.clear();
@@ -43,14 +42,9 @@ impl Node {
     fn make_first_root(&mut self)
         ensures { view self.new ≡ node fresh 0 }
     {
+        self.make_leaf(ALL_KEYS);
         self.level = 1;
-        self.low = 0;
-        self.high = KEYS_END;
-        self.pivots.clear();
-        self.children.clear();
         self.children.push_reserved(1);
-        self.messages.clear();
-        self.records.clear();
     }
 }
 

@@ -3,14 +3,15 @@ ghost use Rattle.std.specs.Prelude.{◌≡◌, ◌+◌, ◌<◌, ◌≤◌, vec_
 
 use messages::entry::Entry;
 use messages::message::Message;
+use messages::span::Span;
 
-// A leaf, of level 0, has records; an inner node has pivots, children and messages on their way down.
+// A leaf, of level 0, has records; an inner node has pivots, children and messages on their way down. One struct for both, since the memory of
+// a node is made beforehand and may become either.
 #[derive(Drop)]
 pub struct Node {
     pub level: u8,
-    // The node's keys run from `low` to just below `high`.
-    pub low: u32,
-    pub high: u64,
+    // The node's keys.
+    pub span: Span,
     pub pivots: Vec<u32>,
     // The block numbers of the children.
     pub children: Vec<u32>,

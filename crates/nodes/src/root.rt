@@ -4,7 +4,7 @@ use crate::node::Node;
 #[derive(Drop)]
 pub struct Root {
     pub node: Node,
-    // The number of the store's kind, as the block says.
+    // The number of the store's kind, as the block says: any byte, until opening compares it.
     pub kind: u8,
     // The block numbers from this one on are free.
     pub next_free: u32,

@@ -11,7 +11,7 @@ use rules::limits::BLOCK_SIZE;
 
 impl Node {
     // The header of the node below the root.
-    fn header(&self, kind: u8) -> Header
+    pub(crate) fn header(&self, kind: u8) -> Header
         ensures { result ≡ header_below kind (view self.now) }
     {
         let count = if self.level == 0 {
@@ -38,11 +38,11 @@ impl Node {
         ensures { block.new ≡ take 32 block.old ++ tables_of (view self.now) }
     {
         if self.level == 0 {
-            write_table(&mut block[32..BLOCK_SIZE], &self.records);
+            write_table(&mut block[32..], &self.records);
         } else {
             write_table(&mut block[32..60], &self.pivots);
             write_table(&mut block[60..92], &self.children);
-            write_table(&mut block[92..BLOCK_SIZE], &self.messages);
+            write_table(&mut block[92..], &self.messages);
         }
     }
 

@@ -3,45 +3,35 @@
 #![tactic(auto)]
 
 mod pages;
-mod runs;
 
-use crate::pages::Tally;
-use crate::runs::{Cost, Run, make_run};
+use crate::pages::read_all;
+use blocks::memory::MemoryDevice;
+use messages::entry::Entry;
 use std::io;
-use store_plan::figures::Figures;
-
-const RUNS: [Run; 4] = [Run::Rising, Run::Falling, Run::Scattered, Run::Mixed];
-
-fn print_cost(rt: &impl Print, run: Run, cost: Cost) -> io::Result<()> {
-    let title = run.title();
-    let Cost {
-        figures,
-        reads,
-        writes,
-        tally,
-    } = cost;
-    let Figures {
-        updates,
-        height,
-        tree_writes,
-    } = figures;
-    println!(rt;
-        "{title}: updates {updates}, height {height}, tree writes {tree_writes}, reads {reads}, writes {writes}"
-    )?;
-    let Tally {
-        pages,
-        entries,
-        reads,
-        digest,
-    } = tally;
-    println!(rt; "  pages {pages}, entries {entries}, reads {reads}, digest {digest:016x}")
-}
+use steps::gathering::MOST_IN_PAGE;
+use store::workspace::Workspace;
+use trial_runs::cards::{CARD_BYTES, PLENTY};
+use trial_runs::cost::{Cost, close};
+use trial_runs::fresh::new_store;
+use trial_runs::run::{MODEL_RUNS, make_updates};
 
 fn main(rt: HostRuntime) -> io::Result<()> {
-    let mut bytes = vec![in rt.alloc(); 0u8; 262144]?;
-    for kind in RUNS.iter() {
-        let cost = make_run(rt.alloc(), &mut bytes, *kind)?;
-        print_cost(&rt, *kind, cost)?;
+    let mut bytes = vec![in rt.alloc(); 0u8; CARD_BYTES]?;
+    let none = Entry { key: 0, value: 0 };
+    let mut table = vec![in rt.alloc(); none; MOST_IN_PAGE]?;
+    for run in &MODEL_RUNS {
+        let workspace = Workspace::new(rt.alloc())?;
+        let mut store = new_store(MemoryDevice::new(&mut bytes, PLENTY), workspace);
+        make_updates(&mut store, *run);
+        let tally = read_all(&mut store, &mut table);
+        let closed = close(store);
+        // The reads of pages are printed on their own.
+        let cost = Cost {
+            reads: closed.reads.wrapping_sub(tally.reads),
+            ..closed
+        };
+        println!(rt; "{}: {cost}", run.order)?;
+        println!(rt; "  {tally}")?;
     }
     Ok(())
 }

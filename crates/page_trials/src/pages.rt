@@ -2,8 +2,10 @@
 use blocks::device::Device;
 use messages::entry::Entry;
 use messages::kind::Kind;
+use std::fmt;
 use store::store::Store;
 use store_plan::page::Page;
+use trial_runs::digest::{NO_DIGEST, mix};
 
 // What the pages had in all.
 #[derive(Clone, Copy)]
@@ -11,7 +13,7 @@ pub struct Tally {
     pub pages: u64,
     pub entries: u64,
     pub reads: u64,
-    // Of each key and word, in their order.
+    // The FNV-1a digest of each key and word, in their order.
     pub digest: u64,
 }
 
@@ -22,38 +24,45 @@ impl Tally {
             pages: 0,
             entries: 0,
             reads: 0,
-            digest: 14695981039346656037,
+            digest: NO_DIGEST,
         }
-    }
-
-    fn mix(&mut self, number: u64) {
-        self.digest = (self.digest ^ number).wrapping_mul(1099511628211);
     }
 
     fn add(&mut self, page: Page, entries: &[Entry<u64>]) {
         self.pages = self.pages.wrapping_add(1);
         self.entries = self.entries.wrapping_add(page.entries as u64);
         self.reads = self.reads.wrapping_add(u64::from(page.reads));
-        for entry in entries {
-            self.mix(u64::from(entry.key));
-            self.mix(entry.value);
-        }
+        self.digest = entries.iter().fold(self.digest, |sum, entry| {
+            mix(mix(sum, u64::from(entry.key)), entry.value)
+        });
+    }
+}
+
+impl fmt::Display for Tally {
+    fn fmt<W: fmt::Write>(&self, f: &mut fmt::Formatter<W>) -> fmt::Result {
+        let Tally {
+            pages,
+            entries,
+            reads,
+            digest,
+        } = *self;
+        write!(
+            f,
+            "pages {pages}, entries {entries}, reads {reads}, digest {digest:016x}"
+        )
     }
 }
 
 // Each page begins at the key that the one before gives.
 pub fn read_all<D: Device, K: Kind>(store: &mut Store<D, K>, table: &mut [Entry<u64>]) -> Tally {
     let mut tally = Tally::new();
-    let mut low = 0;
-    'pages: loop {
-        let page = match store.page(low, u32::MAX, table) {
-            Ok(page) => page,
-            Err(_) => return tally,
+    let mut next = Some(0);
+    while let Some(low) = next {
+        let Ok(page) = store.page(low, u32::MAX, table) else {
+            return tally;
         };
         tally.add(page, &table[..page.entries]);
-        match page.next {
-            Some(key) => low = key,
-            None => return tally,
-        }
+        next = page.next;
     }
+    tally
 }

@@ -3,14 +3,15 @@ use Rattle.std.specs.Prelude.{ℕ, List, Option}
 use Rattle.messages.specs.Algebra.{Algebra}
 use Rattle.messages.specs.declared.entry.Entry.{Entry}
 use Rattle.messages.specs.declared.message.Message.{Message}
+use Rattle.rules.specs.declared.rule.Rule.{Rule}
 use Rattle.tree.specs.Nodes.{Node}
 
--- the block of a node below the root; the number of the first rule that a block breaks where a node of a level and span is expected, with a
+-- the block of a node below the root; the first rule that a block breaks where a node of a level and span is expected, with a
 -- next free number; and what the tables of a block say where a node of a level is expected
 pub record Code : Type 0 where
   pub algebra : Algebra
   pub encode : Node → List ℕ
-  pub fault : ℕ → ℕ → ℕ → ℕ → List ℕ → Option ℕ
+  pub fault : ℕ → ℕ → ℕ → ℕ → List ℕ → Option Rule
   pub pivots : ℕ → List ℕ → List ℕ
   pub children : ℕ → List ℕ → List ℕ
   pub messages : ℕ → List ℕ → List (Entry Message)

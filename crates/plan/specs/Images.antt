@@ -5,8 +5,7 @@ use Rattle.blocks.specs.Refusals.{refusal_number}
 use Rattle.blocks.specs.declared.refusal.Refusal.TheVariants.{NoSuchBlock}
 use Rattle.blocks.specs.declared.state.State.{State}
 use Rattle.blocks.specs.declared.state.State.TheVariants.{Sound}
-use Rattle.plan.specs.declared.layer.Layer.TheVariants.{Device, Node}
-use Rattle.plan.specs.declared.report.Report.{Report}
+use Rattle.plan.specs.Reports.{Report, device_report}
 
 -- all of a medium but its allowance: how that falls is the device's choice
 pub record Image : Type 0 where
@@ -25,13 +24,6 @@ image_read d = record { size = d.size; bytes = d.bytes; state = d.state; reads =
 
 abbrev pub image_written : Image → ℕ → List ℕ → Image
 image_written d n b = record { size = d.size; bytes = change d.bytes n b; state = change d.state n Sound; reads = d.reads; writes = (d.writes + 1) % 2 ^ 64 }
-
--- a refusal of the device at block n, and a node in block n that breaks a rule
-abbrev pub device_report : ℕ → ℕ → Report
-device_report number n = record { number = number; layer = Device; block = Some n; rule = None }
-
-abbrev pub node_report : ℕ → ℕ → Report
-node_report n rule = record { number = 12; layer = Node; block = Some n; rule = Some rule }
 
 -- what comes of something tried: a value, or a stop, with the image as it then is and the refusal
 pub data Try (A : Type 0) : Type 0 where

@@ -3,3 +3,5 @@ pub mod Codes
 pub mod Steps
 pub mod Queries
 pub mod Pages
+pub mod Refusals
+pub mod Reports

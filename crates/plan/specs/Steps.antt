@@ -7,8 +7,10 @@ use Rattle.tree.specs.Nodes.{Node}
 use Rattle.tree.specs.Operations.{with_message, lower_inner, upper_inner, split_key, lower_half, upper_half, with_new_child, new_root, without_batch, absorb}
 use Rattle.tree.specs.Update.{largest, is_full}
 use Rattle.plan.specs.Codes.{Code, decoded}
-use Rattle.plan.specs.Images.{Image, Try, bind, load, save, node_report}
+use Rattle.plan.specs.Images.{Image, Try, bind, load, save}
 use Rattle.plan.specs.Images.Try.{done, stop}
+use Rattle.plan.specs.Reports.{node_report}
+use Rattle.rules.specs.declared.rule.Rule.{Rule}
 
 -- ---- the choice of the child
 -- the block and the span of the child at place j
@@ -34,7 +36,7 @@ pub record Fetched : Type 0 where
   pub image : Image
   pub child : Node
 
-abbrev pub unless_bad : Option ℕ → Image → ℕ → Node → Try Fetched
+abbrev pub unless_bad : Option Rule → Image → ℕ → Node → Try Fetched
 unless_bad None d n x = done (record { image = d; child = x })
 unless_bad (Some rule) d n x = stop d (node_report n rule)
 

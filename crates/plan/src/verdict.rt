@@ -1,4 +1,4 @@
-// What a level says of a key in a query.
+// What a level says of a key in a query. Std's `ControlFlow` would only rename the two: `?` does not take it out of a call that gives a result.
 #[derive(Clone, Copy)]
 pub enum Verdict {
     // The key is settled: this is what it holds.

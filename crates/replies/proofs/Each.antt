@@ -42,7 +42,7 @@ reply_clean (Rejected number) = (refl, (refl, (refl, decimal_clean number)))
 reply_clean (Held sheet quantity day) = (refl, (refl, both_clean _ _ (decimal_clean sheet) (both_clean _ _ (signed_clean quantity) (decimal_clean day))))
 reply_clean (Absent sheet) = (refl, (refl, both_clean _ _ (decimal_clean sheet) (refl, (refl, (refl, (refl, tt))))))
 reply_clean (Totalled sheets sum reads) = (refl, (refl, both_clean _ _ (decimal_clean sheets) (both_clean _ _ (signed_clean sum) (decimal_clean reads))))
-reply_clean (Figured updates height writes) = (refl, (refl, both_clean _ _ (decimal_clean updates) (both_clean _ _ (decimal_clean height) (decimal_clean writes))))
+reply_clean (Figured f) = (refl, (refl, both_clean _ _ (decimal_clean f.updates) (both_clean _ _ (decimal_clean f.height) (decimal_clean f.tree_writes))))
 reply_clean Unfit = (refl, (refl, (refl, (refl, (refl, (refl, (refl, (refl, tt))))))))
 
 one_line : (l more : List ℕ) → Clean 10 l → lines_of (l ++ (10 ∷ more)) ≡ l ∷ lines_of more
@@ -72,7 +72,3 @@ line_each ls trace e =
     let long : length (good ls ++ (Close ∷ [])) ≡ length (good ls) + 1 = length-append (good ls) (Close ∷ []) in
     let room : length (good ls) ≤ length (between trace) = omega (arith, between_length trace, e, long) in
     ap length (falls_apart (replies_to ls (between trace))) ∙ map_length reply_text (replies_to ls (between trace)) ∙ one_each ls (between trace) room
-
--- the text made of the points between the first and the last
-pub output_is : (bs : List ℕ) (ls : List (Option Call)) (ps trace : List Point) → bs ≡ text_of (replies_to ls ps) → ps ≡ between trace → bs ≡ output_text ls trace
-output_is bs ls ps trace e is = e ∙ ap (λ (x : List Point). text_of (replies_to ls x)) is

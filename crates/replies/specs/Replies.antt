@@ -1,7 +1,7 @@
 -- What a line is answered, and its words. No other place states these.
 use Rattle.std.specs.Prelude.{ℕ, List, [], ◌∷◌, Some, None, codes, decimal, Option}
 use Rattle.std.specs.Fmt.{signed_decimal}
-use Rattle.plan.specs.declared.report.Report.{Report}
+use Rattle.plan.specs.Reports.{Report, number_of}
 use Rattle.calls.specs.Refusals.{number_told}
 use Rattle.calls.specs.declared.call.Call.{Call}
 use Rattle.calls.specs.declared.call.Call.TheVariants.{Open, Booking, Count, Strike, Query, Total, Figures, Close}
@@ -30,8 +30,8 @@ found_by Close h = Unfit
 
 -- the first report, the stock store's before the day store's
 abbrev pub opened_with : Option Report → Option Report → Reply
-opened_with (Some r) day = Rejected r.number
-opened_with None (Some r) = Rejected r.number
+opened_with (Some r) day = Rejected (number_of r)
+opened_with None (Some r) = Rejected (number_of r)
 opened_with None None = Accepted
 
 -- the reply to a line that asked for the call, where the book gave the answer
@@ -42,7 +42,7 @@ reply_to call Done = Accepted
 reply_to call (Refused r) = Rejected (number_told r)
 reply_to call (Found f) = found_by call f.holding
 reply_to call (TotalAnswer s) = Totalled s.sheets s.sum s.stock_reads
-reply_to call (FiguresAnswer f) = Figured f.updates f.height f.tree_writes
+reply_to call (FiguresAnswer f) = Figured f
 reply_to call (Closed stock day) = Accepted
 
 -- the words of a reply
@@ -53,7 +53,7 @@ reply_words (Rejected number) = codes "no" ∷ decimal number ∷ []
 reply_words (Held sheet quantity day) = codes "q" ∷ decimal sheet ∷ signed_decimal quantity ∷ decimal day ∷ []
 reply_words (Absent sheet) = codes "q" ∷ decimal sheet ∷ codes "none" ∷ []
 reply_words (Totalled sheets sum reads) = codes "t" ∷ decimal sheets ∷ signed_decimal sum ∷ decimal reads ∷ []
-reply_words (Figured updates height tree_writes) = codes "f" ∷ decimal updates ∷ decimal height ∷ decimal tree_writes ∷ []
+reply_words (Figured f) = codes "f" ∷ decimal f.updates ∷ decimal f.height ∷ decimal f.tree_writes ∷ []
 reply_words Unfit = codes "not" ∷ codes "made" ∷ []
 
 -- its words, a space apart

@@ -3,7 +3,7 @@ ghost use Rattle.std.specs.Prelude.{◌≡◌, map, length, IfOk, string_bytes};
 ghost use Rattle.fields.specs.Parts.{lines_of};
 ghost use Rattle.requests.specs.Runs.{run_of};
 ghost use Rattle.replies.specs.Replies.{reply_text};
-ghost use Rattle.replies.specs.Output.{between, output_text, replies_to, text_of};
+ghost use Rattle.replies.specs.Output.{between, output_text, replies_to};
 
 use crate::reply::Reply;
 use calls::call::Call;
@@ -18,7 +18,20 @@ pub fn output(heap: Global, lines: &[Option<Call>], trace: &[Point]) -> Result<S
     ensures parts { IfOk result (λ t. lines_of (string_bytes t) ≡ map reply_text (replies_to lines.now (between trace.now))) }
     ensures each { IfOk result (λ t. length trace.now ≡ length (run_of lines.now) → length (lines_of (string_bytes t)) ≡ length lines.now) }
 {
-    let text = text_of(heap, lines, inner(trace))?;
+    let mut text = String::new(heap);
+    let mut points = inner(trace).iter();
+    for line in lines {
+        let reply = match line {
+            None => Reply::Bad,
+            Some(call) => {
+                let Some(point) = points.next() else {
+                    continue;
+                };
+                Reply::to(*call, point.answer)
+            }
+        };
+        writeln!(text, "{reply}")?;
+    }
     Ok(text)
 }
 
@@ -26,30 +39,8 @@ pub fn output(heap: Global, lines: &[Option<Call>], trace: &[Point]) -> Result<S
 fn inner(trace: &[Point]) -> &[Point]
     ensures { result.now ≡ between trace.now }
 {
-    if trace.len() < 2 {
-        return &[];
+    match trace {
+        [_, inner @ .., _] => inner,
+        _ => &[],
     }
-    &trace[1..trace.len() - 1]
-}
-
-fn text_of(heap: Global, lines: &[Option<Call>], points: &[Point]) -> Result<String, AllocError>
-    ensures { IfOk result (λ t. string_bytes t ≡ text_of (replies_to lines.now points.now)) }
-{
-    let mut text = String::new(heap);
-    let mut next = 0;
-    for line in lines {
-        let reply = match line {
-            None => Reply::Bad,
-            Some(call) => {
-                let Some(point) = points.get(next) else {
-                    continue;
-                };
-                next += 1;
-                Reply::to(*call, point.answer)
-            }
-        };
-        let shown = format!(in heap; "{reply}\n")?;
-        text.push_str(shown.as_str())?;
-    }
-    Ok(text)
 }

@@ -5,35 +5,21 @@ ghost use Rattle.replies.specs.Replies.{reply_text, reply_to};
 use calls::answer::Answer;
 use calls::call::Call;
 use std::fmt;
+use store_plan::figures::Figures;
 
 #[derive(Clone, Copy)]
 pub enum Reply {
     // The line is bad.
     Bad,
     Accepted,
-    Rejected {
-        number: u8,
-    },
+    // By the number that is printed: that of a refusal of the book, or of a report.
+    Rejected { number: u8 },
     // What the sheet holds.
-    Held {
-        sheet: u32,
-        quantity: i64,
-        day: u64,
-    },
+    Held { sheet: u32, quantity: i64, day: u64 },
     // The sheet holds nothing.
-    Absent {
-        sheet: u32,
-    },
-    Totalled {
-        sheets: u64,
-        sum: i64,
-        reads: u64,
-    },
-    Figured {
-        updates: u64,
-        height: u8,
-        tree_writes: u64,
-    },
+    Absent { sheet: u32 },
+    Totalled { sheets: u64, sum: i64, reads: u64 },
+    Figured(Figures),
     // The call does not fit the book.
     Unfit,
 }
@@ -47,7 +33,7 @@ impl Reply {
             Answer::NotMade => Reply::Unfit,
             Answer::Opened { stock, day } => match stock.or(day) {
                 Some(report) => Reply::Rejected {
-                    number: report.number,
+                    number: report.number(),
                 },
                 None => Reply::Accepted,
             },
@@ -73,11 +59,7 @@ impl Reply {
                 sum: total.sum,
                 reads: total.stock_reads,
             },
-            Answer::Figures(figures) => Reply::Figured {
-                updates: figures.updates,
-                height: figures.height,
-                tree_writes: figures.tree_writes,
-            },
+            Answer::Figures(figures) => Reply::Figured(figures),
             Answer::Closed { .. } => Reply::Accepted,
         }
     }
@@ -99,11 +81,13 @@ impl fmt::Display for Reply {
             } => write!(f, "q {sheet} {quantity} {day}"),
             Reply::Absent { sheet } => write!(f, "q {sheet} none"),
             Reply::Totalled { sheets, sum, reads } => write!(f, "t {sheets} {sum} {reads}"),
-            Reply::Figured {
-                updates,
-                height,
-                tree_writes,
-            } => write!(f, "f {updates} {height} {tree_writes}"),
+            Reply::Figured(
+                Figures {
+                    updates,
+                    height,
+                    tree_writes,
+                },
+            ) => write!(f, "f {updates} {height} {tree_writes}"),
             Reply::Unfit => write!(f, "not made"),
         }
     }

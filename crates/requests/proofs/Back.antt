@@ -28,6 +28,10 @@ alone_some : {A : Type 0} (fs : List (List ℕ)) (x y : A) → alone fs x ≡ So
 alone_some [] x y e = (refl, cc)
 alone_some (f ∷ fs) x y e = clash y e
 
+pub alone_none : {A : Type 0} (fs : List (List ℕ)) (x : A) → (fs ≡ [] → ⊥) → alone fs x ≡ None
+alone_none [] x h = absurd (h refl)
+alone_none (f ∷ fs) x h = refl
+
 amount_told : (t : Told) (z : ℤ) → amount_in t ≡ Some z → t ≡ number z
 amount_told (letter c) z e = clash z e
 amount_told (number y) z e = cc

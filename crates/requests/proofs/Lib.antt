@@ -1,2 +1,1 @@
 pub mod Back
-pub mod Steps

@@ -1,5 +1,5 @@
 -- A line and the call that it asks for, without any way of reading: the line is the call's text.
-use Rattle.std.specs.Prelude.{◌≡◌, ℕ, ◌^◌, ◌<◌, ◌≤◌, Bool, true, false, List, [], ◌∷◌, codes, decimal}
+use Rattle.std.specs.Prelude.{◌≡◌, ℕ, ◌^◌, ◌<◌, ◌≤◌, List, [], ◌∷◌, codes, decimal}
 use Rattle.std.specs.Fmt.{signed_decimal}
 use Rattle.calls.specs.declared.call.Call.{Call}
 use Rattle.calls.specs.declared.call.Call.TheVariants.{Open, Booking, Count, Strike, Query, Total, Figures, Close}
@@ -39,8 +39,3 @@ Fitting Close = ⊥
 pub record Reads (line : List ℕ) (c : Call) : Type 0 where
   pub text : line ≡ call_text c
   pub fits : Fitting c
-
--- the flag says whether P holds
-abbrev pub Tells : Bool → Type 0 → Type 0
-Tells true P = P
-Tells false P = P → ⊥

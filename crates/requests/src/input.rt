@@ -8,14 +8,14 @@ use crate::line::parse;
 use calls::call::Call;
 use fields::lines::Lines;
 use std::alloc::{AllocError, Global};
+use std::iter::once;
 
 // What each line asks for, in order. Room for all is reserved first, so memory can fail only there.
 pub fn parse_all(heap: Global, input: &[u8]) -> Result<Vec<Option<Call>>, AllocError>
     ensures { IfOk result (λ v. v.items ≡ map asked (lines_of input.now)) }
 {
     let mut asked = Vec::with_capacity(heap, input.len())?;
-    let mut lines = Lines::new(input);
-    while let Some(line) = lines.next_line() {
+    for line in Lines::new(input) {
         asked.push_reserved(parse(line));
     }
     Ok(asked)
@@ -25,13 +25,8 @@ pub fn parse_all(heap: Global, input: &[u8]) -> Result<Vec<Option<Call>>, AllocE
 pub fn run_of(heap: Global, lines: &[Option<Call>]) -> Result<Vec<Call>, AllocError>
     ensures { IfOk result (λ v. v.items ≡ run_of lines.now) }
 {
-    let mut calls = Vec::with_capacity(heap, lines.len() + 2)?;
-    calls.push_reserved(Call::Open);
-    for line in lines {
-        if let Some(call) = line {
-            calls.push_reserved(*call);
-        }
-    }
-    calls.push_reserved(Call::Close);
-    Ok(calls)
+    once(Call::Open)
+        .chain(lines.iter().copied().flatten())
+        .chain(once(Call::Close))
+        .collect(heap)
 }

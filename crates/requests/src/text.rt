@@ -1,8 +1,8 @@
 // A call as the line that asks for it.
-ghost use Rattle.std.specs.Prelude.{◌≡◌, ℕ, List, IfSome, IfOk, Some, string_bytes, MatchOption};
+ghost use Rattle.std.specs.Prelude.{◌≡◌, ◌↔◌, ℕ, List, IsTrue, IfSome, IfOk, Some, string_bytes, MatchOption};
 ghost use Rattle.fields.specs.Laws.{Short};
 ghost use Rattle.requests.specs.Asked.{asked};
-ghost use Rattle.requests.specs.Reads.{call_text, Fitting, Reads, Tells};
+ghost use Rattle.requests.specs.Reads.{call_text, Fitting, Reads};
 
 use calls::call::Call;
 use calls::part::Part;
@@ -10,7 +10,7 @@ use std::alloc::{AllocError, Global};
 use std::fmt;
 
 // Numbers in a line are below it in size.
-const BEYOND: i64 = 1000000000000000000;
+const BEYOND: u64 = 1_000_000_000_000_000_000;
 
 // Shown as its fields with tabs between; a call that no line asks for is shown as nothing.
 #[derive(Clone, Copy)]
@@ -27,34 +27,29 @@ impl fmt::Display for CallLine {
             Call::Query { sheet } => write!(f, "q\t{sheet}"),
             Call::Total { low, high } => write!(f, "t\t{low}\t{high}"),
             Call::Figures { part: Part::Stock } => write!(f, "f"),
-            Call::Figures { part: Part::Day } => Ok(()),
-            Call::Open => Ok(()),
-            Call::Close => Ok(()),
+            Call::Figures { part: Part::Day } | Call::Open | Call::Close => Ok(()),
         }
     }
 }
 
 // Whether an amount has at most 18 digits.
 fn is_short(amount: i64) -> bool
-    ensures { Tells result (Short amount) }
+    ensures { IsTrue result ↔ Short amount }
 {
-    -BEYOND < amount && amount < BEYOND
+    amount.unsigned_abs() < BEYOND
 }
 
 // Whether a line asks for the call.
 fn is_asked(call: Call) -> bool
-    ensures { Tells result (Fitting call) }
+    ensures { IsTrue result ↔ Fitting call }
 {
     match call {
-        Call::Booking { amount, day, .. } => is_short(amount) && day < BEYOND as u64,
-        Call::Count { amount, day, .. } => is_short(amount) && day < BEYOND as u64,
-        Call::Strike { .. } => true,
-        Call::Query { .. } => true,
-        Call::Total { .. } => true,
-        Call::Figures { part: Part::Stock } => true,
-        Call::Figures { part: Part::Day } => false,
-        Call::Open => false,
-        Call::Close => false,
+        // Two arms: `Call::Booking { .. } | Call::Count { .. }` that binds fields of two types is not taken by the check.
+        Call::Booking { amount, day, .. } => is_short(amount) && day < BEYOND,
+        Call::Count { amount, day, .. } => is_short(amount) && day < BEYOND,
+        Call::Strike { .. } | Call::Query { .. } | Call::Total { .. } => true,
+        Call::Figures { part } => part == Part::Stock,
+        Call::Open | Call::Close => false,
     }
 }
 

@@ -6,6 +6,7 @@ use Rattle.std.specs.List.{AllByRecursion}
 use Rattle.std.proofs.lemmas.Nat.{mul-le}
 use Rattle.std.proofs.ByRecursion.{All-drop}
 use Rattle.std.proofs.lemmas.List.{append-nil, take_more, take_all, take_rest, drop_all, drop_at, flat_map_more, drop-drop}
+use Rattle.std.proofs.lemmas.Slice.{take-put_mid}
 use Rattle.std.proofs.lemmas.Bool.{and_parts, and_from, eqb-true}
 use Rattle.rows.specs.Bytes.{Bytes, padded, all_zero}
 use Rattle.rows.specs.Coding.{Coding}
@@ -36,10 +37,6 @@ row_left size i n table rest e within less =
     let long : length rest ≡ length table - size * i = ap length e ∙ length-drop (size * i) table in
     omega (arith, row_within size i n less)
 
--- the bytes of one row more
-pub size_more : (size i : ℕ) → size * (i + 1) ≡ size * i + size
-size_more size i = rw add-one (mul-suc size i)
-
 -- bytes that are all zero are that many zeros
 pub zeros : (bs : List ℕ) (n : ℕ) → length bs ≡ n → all_zero bs ≡ true → bs ≡ replicate n 0
 zeros [] n e h = rw (sym e) refl
@@ -58,6 +55,13 @@ module _ {X : Type 0} (c : Coding X) where
 
   pub rows_more : (xs : List X) (i : ℕ) (x : X) → i < length xs → x ≡ get_or xs i x → rows_of c (take (i + 1) xs) ≡ rows_of c (take i xs) ++ c.encode x
   rows_more xs i x h e = ap (rows_of c) (take_more xs i x h ∙ ap (λ y. take i xs ++ y ∷ []) (sym e)) ∙ sym (flat_map_more c.encode [] (take i xs) x)
+
+  -- row i is written behind the rows of the values before it
+  pub row_written : (size k i : ℕ) (xs : List X) (x : X) (table row : List ℕ) → size ≡ c.size → c.size * length xs ≤ length table → i < length xs → x ≡ get_or xs i x → take (i * size) table ≡ rows_of c (take i xs) → row ≡ c.encode x → take ((i + 1) * size) (put_mid (i * size) k table row) ≡ rows_of c (take (i + 1) xs)
+  row_written size k i xs x table row e room h at front w =
+      let within : i * size + size ≤ length table = rw e (omega (arith, row_within c.size i (length xs) h)) in
+      let long : length row ≡ size = ap length w ∙ c.encode_size x ∙ sym e in
+      take-put_mid (i * size) k table row ((i + 1) * size) (omega arith) (omega arith) ∙ (λ j. front j ++ w j) ∙ sym (rows_more xs i x h at)
 
   pub length_values : (n : ℕ) (bs : List ℕ) → length (values_of c n bs) ≡ n
   length_values zero bs = refl

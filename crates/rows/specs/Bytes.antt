@@ -1,7 +1,7 @@
 -- Big-endian numbers, and zeros.
-use Rattle.std.specs.Prelude.{ℕ, zero, suc, ◌-◌, ◌/◌, ◌%◌, ◌^◌, ◌<◌, Bool, true, ◌&&◌, List, [], ◌∷◌, ◌++◌, length, replicate, ◌==◌}
+use Rattle.std.specs.Prelude.{ℕ, zero, suc, ◌-◌, ◌/◌, ◌%◌, ◌^◌, ◌<◌, Bool, List, [], ◌∷◌, ◌++◌, length, replicate, ◌==◌}
 use Rattle.std.specs.Int.Digits.{number_from_digits}
-use Rattle.std.specs.List.{AllByRecursion}
+use Rattle.std.specs.List.{AllByRecursion, list_all}
 
 -- each is a byte
 abbrev pub Bytes : List ℕ → Type 0
@@ -22,5 +22,4 @@ padded n bs = bs ++ replicate (n - length bs) 0
 
 -- each is zero
 abbrev pub all_zero : List ℕ → Bool
-all_zero [] = true
-all_zero (b ∷ bs) = b == 0 && all_zero bs
+all_zero bs = list_all (λ b. b == 0) bs

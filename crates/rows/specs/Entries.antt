@@ -7,16 +7,11 @@ use Rattle.messages.specs.declared.message.Message.{Message}
 use Rattle.messages.specs.declared.message.Message.TheVariants.{Put, Remove, Add}
 use Rattle.rows.specs.Bytes.{Bytes, number_of}
 use Rattle.rows.specs.Coding.{Coding, number, pair, like}
+pub use Rattle.rows.specs.Sorts.{message_number, known}
 
 -- a key and then a value
 abbrev pub entry_coding : {V : Type 0} → Coding V → Coding (Entry V)
 entry_coding c = like (λ p. record { key = p.0; value = p.1 }) (λ e. (e.key, e.value)) (λ e. refl) (λ p. refl) (pair (number 4) c)
-
--- the byte of a message's sort
-abbrev pub message_number : Message → ℕ
-message_number (Put v) = 1
-message_number Remove = 2
-message_number (Add d) = 3
 
 -- the value or delta of a message, 0 of a remove
 abbrev pub message_word : Message → ℕ
@@ -27,10 +22,6 @@ message_word (Add d) = d
 -- the message that a number and a word say; an unknown number says a remove
 abbrev pub message_of : ℕ → ℕ → Message
 message_of n w = cond (n == 1) (Put w) (cond (n == 3) (Add w) Remove)
-
--- the number is that of a message
-abbrev pub known : ℕ → Bool
-known n = nat_le 1 n && nat_le n 3
 
 -- a remove's word is zero
 abbrev pub exact : ℕ → ℕ → Bool

@@ -5,4 +5,5 @@ pub mod bytes;
 pub mod entries;
 pub mod numbers;
 pub mod row;
+pub mod sort;
 pub mod table;

@@ -5,6 +5,7 @@ ghost use Rattle.rows.specs.Tables.{NumbersRoundTrip};
 
 use crate::row::Row;
 
+// Four impls: each width has an array type of its own, so a trait over them would be implemented as often.
 impl Row for u8 {
     ghost coding = { number 1 };
 
@@ -17,7 +18,7 @@ impl Row for u8 {
     }
 
     fn read(bytes: &[u8]) -> u8 {
-        u8::from_be_bytes([bytes[0]])
+        u8::from_be_bytes(*bytes.first_chunk().unwrap())
     }
 }
 
@@ -33,7 +34,7 @@ impl Row for u16 {
     }
 
     fn read(bytes: &[u8]) -> u16 {
-        u16::from_be_bytes([bytes[0], bytes[1]])
+        u16::from_be_bytes(*bytes.first_chunk().unwrap())
     }
 }
 
@@ -49,7 +50,7 @@ impl Row for u32 {
     }
 
     fn read(bytes: &[u8]) -> u32 {
-        u32::from_be_bytes([bytes[0], bytes[1], bytes[2], bytes[3]])
+        u32::from_be_bytes(*bytes.first_chunk().unwrap())
     }
 }
 
@@ -65,9 +66,7 @@ impl Row for u64 {
     }
 
     fn read(bytes: &[u8]) -> u64 {
-        u64::from_be_bytes([
-            bytes[0], bytes[1], bytes[2], bytes[3], bytes[4], bytes[5], bytes[6], bytes[7],
-        ])
+        u64::from_be_bytes(*bytes.first_chunk().unwrap())
     }
 }
 

@@ -1,5 +1,5 @@
 -- The rules on a block's header as tests, in their order.
-use Rattle.std.specs.Prelude.{ℕ, Bool, cond, ◌&&◌, List, [], ◌∷◌, Some, None, Ok, Err, Option, Result, ◌==◌, nat_le}
+use Rattle.std.specs.Prelude.{ℕ, ◌<◌, ◌≤◌, Bool, cond, ◌&&◌, List, [], ◌∷◌, ◌==◌, nat_le}
 use Rattle.tree.specs.Limits.{most_entries, most_children, fewest_children}
 use Rattle.rules.specs.declared.header.Header.{Header}
 use Rattle.rules.specs.declared.place.Place.{Place}
@@ -49,9 +49,8 @@ unused_zero h = h.unused == 0 && h.gap == 0
 
 -- the root has all keys, and says itself what its level, its kind and the next free number are
 abbrev pub root_place : Header → Place
-root_place h = record { level = h.level; low = 0; high = 4294967296; kind = h.kind; next_free = h.next_free }
+root_place h = record { level = h.level; span = record { low = 0; high = 4294967296 }; kind = h.kind; next_free = h.next_free }
 
--- a result by the first rule that is broken, if any
-abbrev pub verdict : {A : Type 0} → A → Option Rule → Result A Rule
-verdict a None = Ok a
-verdict a (Some rule) = Err rule
+-- a table has room for the sizes that the header of a node at a level gives
+abbrev pub SizesFit : ℕ → Header → Type 0
+SizesFit level h = (h.count ≤ 256) × (0 < level → (1 ≤ h.children) × (h.children ≤ 8))

@@ -7,6 +7,7 @@ use rows::row::Row;
 #[derive(Clone, Copy, PartialEq, Eq, Debug)]
 pub struct Header {
     pub level: u8,
+    // The mark and the kind are bytes here, since a block may have any; the rules judge them.
     pub mark: u8,
     // How many messages or records there are.
     pub count: u16,

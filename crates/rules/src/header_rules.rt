@@ -1,13 +1,14 @@
 // The rules on a block's header.
-ghost use Rattle.std.specs.Prelude.{◌≡◌, ◌<◌, ◌≤◌, IfNone, nat_le};
-ghost use Rattle.rules.specs.HeaderRules.{header_rules, root_header_rules, header_zero, unused_zero, root_place};
+ghost use Rattle.std.specs.Prelude.{◌≡◌, ◌<◌, ◌≤◌, ◌&&◌, OnOk, nat_le};
+ghost use Rattle.messages.specs.Outcomes.{ok_unless};
+ghost use Rattle.rules.specs.HeaderRules.{SizesFit, children_fit, header_rules, root_children_fit, root_header_rules, header_zero, unused_zero, root_place, within};
 ghost use Rattle.tree.specs.Limits.{most_entries};
 ghost use Rattle.rules.specs.Marks.{mark_of};
 ghost use Rattle.rules.specs.Rules.{first_broken};
 
 use crate::header::Header;
 use crate::limits::{
-    FIRST_FREE, KEYS_END, LEAST_CHILDREN, MOST_CHILDREN, MOST_ENTRIES, MOST_LEVEL, MOST_UPDATES,
+    ALL_KEYS, FIRST_FREE, LEAST_CHILDREN, MOST_CHILDREN, MOST_ENTRIES, MOST_LEVEL, MOST_UPDATES,
 };
 use crate::mark::Mark;
 use crate::place::Place;
@@ -18,7 +19,7 @@ impl Header {
     fn has_few_entries(&self) -> bool
         ensures { result ≡ nat_le self.now.count most_entries }
     {
-        self.count as usize <= MOST_ENTRIES
+        usize::from(self.count) <= MOST_ENTRIES
     }
 
     // Whether bytes 8 to 31 are zero.
@@ -35,59 +36,57 @@ impl Header {
         self.unused == 0 && self.gap == 0
     }
 
-    // The first rule that the header of a node below the root breaks.
-    pub fn broken_rule(&self, place: &Place) -> Option<Rule>
-        ensures value { result ≡ first_broken (header_rules place.now self.now) }
-        ensures fits { IfNone result ((self.now.count ≤ 256) × ((0 < place.now.level → (1 ≤ self.now.children) × (self.now.children ≤ 8)))) }
+    // Whether the number of children is that of a node below the root.
+    fn children_fit(&self, level: u8) -> bool
+        ensures { result ≡ children_fit level self.now.children }
     {
-        if self.level != place.level {
-            return Some(Rule::Level);
+        if level == 0 {
+            self.children == 0
+        } else {
+            (LEAST_CHILDREN..=MOST_CHILDREN).contains(&self.children)
         }
-        if self.mark != 0 {
-            return Some(Rule::Mark);
-        }
-        if !self.has_few_entries() {
-            return Some(Rule::Count);
-        }
-        if place.level == 0 {
-            if self.children != 0 {
-                return Some(Rule::Children);
-            }
-        } else if self.children < LEAST_CHILDREN || self.children > MOST_CHILDREN {
-            return Some(Rule::Children);
-        }
-        if self.kind != place.kind {
-            return Some(Rule::Kind);
-        }
-        if !self.is_zero_from_8() {
-            return Some(Rule::HeaderNumbers);
-        }
-        None
     }
 
-    // The first rule that the header of the root breaks, on a device of `size` blocks.
-    pub fn broken_root_rule(&self, size: u32) -> Option<Rule>
-        ensures value { result ≡ first_broken (root_header_rules size self.now) }
-        ensures fits { IfNone result ((self.now.count ≤ 256) × ((0 < self.now.level) × ((1 ≤ self.now.children) × (self.now.children ≤ 8)))) }
-        ensures limits { IfNone result ((self.now.level ≤ 8) × (self.now.updates ≤ 4294967296)) }
+    // Whether the number of children is that of the root.
+    fn root_children_fit(&self) -> bool
+        ensures { result ≡ root_children_fit self.now.level self.now.children }
     {
-        if self.level < 1 || self.level > MOST_LEVEL {
-            return Some(Rule::Level);
-        }
-        if self.mark < 1 || self.mark > 2 {
-            return Some(Rule::Mark);
-        }
-        if !self.has_few_entries() {
-            return Some(Rule::Count);
-        }
         let least = if self.level == 1 { 1 } else { 2 };
-        if self.children < least || self.children > MOST_CHILDREN {
-            return Some(Rule::Children);
-        }
-        if self.next_free < FIRST_FREE || self.next_free > size || self.updates > MOST_UPDATES {
-            return Some(Rule::HeaderNumbers);
-        }
-        None
+        (least..=MOST_CHILDREN).contains(&self.children)
+    }
+
+    // Whether the root's next free number and its updates are in range, on a device of `size` blocks.
+    fn root_numbers_fit(&self, size: u32) -> bool
+        ensures { result ≡ (within 2 size self.now.next_free && nat_le self.now.updates 4294967296) }
+    {
+        (FIRST_FREE..=size).contains(&self.next_free) && self.updates <= MOST_UPDATES
+    }
+
+    // Tells the first rule that the header of a node below the root breaks.
+    pub fn check_below(&self, place: &Place) -> Result<(), Rule>
+        ensures value { result ≡ ok_unless (first_broken (header_rules place.now self.now)) tt }
+        ensures fits { OnOk result (SizesFit place.now.level self.now) }
+    {
+        Rule::Level.unless(self.level == place.level)?;
+        Rule::Mark.unless(self.mark == 0)?;
+        Rule::Count.unless(self.has_few_entries())?;
+        Rule::Children.unless(self.children_fit(place.level))?;
+        Rule::Kind.unless(self.kind == place.kind)?;
+        Rule::HeaderNumbers.unless(self.is_zero_from_8())
+    }
+
+    // The mark of the root, or the first rule that its header breaks, on a device of `size` blocks.
+    pub fn check_root(&self, size: u32) -> Result<Mark, Rule>
+        ensures value { result ≡ ok_unless (first_broken (root_header_rules size self.now)) (mark_of self.now.mark) }
+        ensures fits { OnOk result (SizesFit self.now.level self.now) }
+        ensures limits { OnOk result ((0 < self.now.level) × (self.now.level ≤ 8) × (self.now.updates ≤ 4294967296)) }
+    {
+        Rule::Level.unless((1..=MOST_LEVEL).contains(&self.level))?;
+        let mark = Mark::try_from(self.mark)?;
+        Rule::Count.unless(self.has_few_entries())?;
+        Rule::Children.unless(self.root_children_fit())?;
+        Rule::HeaderNumbers.unless(self.root_numbers_fit(size))?;
+        Ok(mark)
     }
 
     // Where the root stands, as its own header says.
@@ -96,21 +95,9 @@ impl Header {
     {
         Place {
             level: self.level,
-            low: 0,
-            high: KEYS_END,
+            span: ALL_KEYS,
             kind: self.kind,
             next_free: self.next_free,
-        }
-    }
-
-    // The root's mark, where it is 1 or 2.
-    pub fn root_mark(&self) -> Mark
-        ensures { result ≡ mark_of self.now.mark }
-    {
-        if self.mark == 1 {
-            Mark::Closed
-        } else {
-            Mark::InUse
         }
     }
 }

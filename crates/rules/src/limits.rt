@@ -1,13 +1,17 @@
 // The sizes and limits of nodes.
+use messages::span::Span;
 
 // The bytes of a block.
-pub const BLOCK_SIZE: usize = 4096;
+pub use blocks::limits::BLOCK_BYTES as BLOCK_SIZE;
 
 // The most messages or records that a block may hold.
 pub const MOST_ENTRIES: usize = 256;
 
 // The most messages that a node in memory holds: a full node takes a batch of 16.
 pub const MOST_MESSAGES: usize = 272;
+
+// A leaf with more records is split before messages come to it.
+pub const ROOMY_LEAF: usize = 240;
 
 // The children of an inner node below the root.
 pub const LEAST_CHILDREN: u8 = 4;
@@ -25,3 +29,9 @@ pub const MOST_UPDATES: u64 = 4_294_967_296;
 
 // One past the largest key.
 pub const KEYS_END: u64 = 4_294_967_296;
+
+// Every key.
+pub const ALL_KEYS: Span = Span {
+    low: 0,
+    high: KEYS_END,
+};

@@ -1,29 +1,17 @@
-// Tests on keys, and on the pivots and child numbers of a node.
-ghost use Rattle.std.specs.Prelude.{◌≡◌, ◌&&◌, nat_le, nat_lt};
+// Tests on the pivots and child numbers of a node.
+ghost use Rattle.std.specs.Prelude.{◌≡◌};
 ghost use Rattle.rules.specs.Keys.{rising, numbers_below};
 
-// Whether a key lies from `low` on and below `high`.
-pub fn is_inside(key: u64, low: u64, high: u64) -> bool
-    ensures { result ≡ (nat_le low key && nat_lt key high) }
-{
-    low <= key && key < high
-}
+use messages::span::Span;
 
-// Whether a child's block number is at least 1 and below the next free number.
-fn is_taken(number: u32, next_free: u32) -> bool
-    ensures { result ≡ (nat_le 1 number && nat_lt number next_free) }
+// Whether keys rise strictly, inside the span.
+pub fn are_rising(keys: &[u32], span: Span) -> bool
+    ensures { result ≡ rising span.low span.high keys.now }
 {
-    1 <= number && number < next_free
-}
-
-// Whether keys rise strictly, from `low` on and below `high`.
-pub fn are_rising(keys: &[u32], low: u32, high: u64) -> bool
-    ensures { result ≡ rising low high keys.now }
-{
-    let mut next = u64::from(low);
+    let mut next = u64::from(span.low);
     for k in keys {
         let key = u64::from(*k);
-        if !is_inside(key, next, high) {
+        if !(next..span.high).contains(&key) {
             return false;
         }
         next = key + 1;
@@ -35,10 +23,5 @@ pub fn are_rising(keys: &[u32], low: u32, high: u64) -> bool
 pub fn are_taken(numbers: &[u32], next_free: u32) -> bool
     ensures { result ≡ numbers_below next_free numbers.now }
 {
-    for n in numbers {
-        if !is_taken(*n, next_free) {
-            return false;
-        }
-    }
-    true
+    numbers.iter().all(|number| (1..next_free).contains(number))
 }

@@ -6,7 +6,7 @@ use Rattle.messages.specs.Quantity.{quantity_algebra}
 use Rattle.plan.specs.Images.{Image, image}
 use Rattle.plan.specs.Images.Try.{done}
 use Rattle.store_plan.specs.Openings.{format_refusal, format_writes, formatted, unless}
-use Rattle.store_plan.specs.declared.refusal.StoreRefusal.{StoreRefusal}
+use Rattle.plan.specs.declared.refusal.StoreRefusal.{StoreRefusal}
 use Rattle.calls.specs.declared.call.Call.{Call}
 use Rattle.calls.specs.declared.call.Call.TheVariants.{Close}
 use Rattle.calls.specs.declared.point.Point.{Point}

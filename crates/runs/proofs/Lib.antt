@@ -1,3 +1,2 @@
-mod Totals
 mod Went
 mod Formats

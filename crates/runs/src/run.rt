@@ -1,11 +1,12 @@
 // Every list of calls on one book.
-ghost use Rattle.std.specs.Prelude.{◌≡◌, ◌+◌, ◌<◌, ◌≤◌, [], length, IfOk, vec_len, vec_capacity, MatchResult};
-ghost use Rattle.runs.specs.Books.{view};
+ghost use Rattle.std.specs.Prelude.{◌≡◌, ◌+◌, ◌<◌, length, IfOk, IfErr, vec_len, vec_capacity};
+ghost use Rattle.book.specs.Views.{devices_of};
+ghost use Rattle.runs.specs.Books.{closed_view, view};
 ghost use Rattle.runs.specs.Ends.{Ended, LeftOver};
+ghost use Rattle.runs.specs.Rooms.{IsEmptyWithRoom};
 ghost use Rattle.store_plan.specs.Pages.{table_length};
 ghost use Rattle.traces.specs.Runs.{called, Traced};
 ghost use Rattle.traces.specs.Steps.{Went};
-ghost use Rattle.traces.specs.Views.View.{closed as closed_view};
 
 use crate::turn::{Book, Turn, close_book, make_call};
 use blocks::device::Device;
@@ -51,39 +52,33 @@ struct Memory {
 }
 
 fn reserve(heap: Global, calls: usize) -> Result<Memory, AllocError>
-    ensures { IfOk result (λ m. (m.trace.items ≡ []) × (vec_len m.trace ≡ 0) × (calls + 1 ≤ vec_capacity m.trace) × (vec_len m.table ≡ table_length)) }
+    ensures trace { IfOk result (λ m. IsEmptyWithRoom m.trace (calls + 1)) }
+    ensures table { IfOk result (λ m. vec_len m.table ≡ table_length) }
 {
-    let Some(points) = calls.checked_add(1) else {
-        return Err(AllocError);
-    };
-    let trace = Vec::with_capacity(heap, points)?;
-    let table = vec![in heap; Entry { key: 0, value: 0 }; MOST_IN_PAGE]?;
-    match Rooms::new(heap) {
-        Ok(rooms) => Ok(Memory {
-            rooms,
-            trace,
-            table,
-        }),
-        Err(short) => Err(short),
-    }
+    // One point more than there are calls, for closing: the sum always fits, but no contract says so.
+    let points = calls.checked_add(1).ok_or(AllocError)?;
+    Ok(Memory {
+        trace: Vec::with_capacity(heap, points)?,
+        table: vec![in heap; Entry { key: 0, value: 0 }; MOST_IN_PAGE]?,
+        rooms: Rooms::new(heap)?,
+    })
 }
 
 // Makes each call in turn, and adds what is seen to the trace, which has room.
 fn play<S: Device, D: Device>(
-    book: Book<S, D>,
+    mut book: Book<S, D>,
     calls: &[Call],
     table: &mut [Entry<u64>],
     trace: &mut Vec<Point>,
 ) -> Book<S, D>
-    requires { (length table.old ≡ table_length) × ((trace.old.items ≡ []) × ((vec_len trace.old ≡ 0) × (length calls.now + 1 ≤ vec_capacity trace.old))) }
+    requires table { length table.old ≡ table_length }
+    requires trace { IsEmptyWithRoom trace.old (length calls.now + 1) }
     ensures calls { called trace.new.items ≡ calls.now }
-    ensures went { Went (view S.Device D.Device book) trace.new.items (view S.Device D.Device result) }
+    ensures went { Went (view book) trace.new.items (view result) }
     ensures room { vec_len trace.new < vec_capacity trace.new }
 {
-    let mut book = book;
     for call in calls {
-        let turn = make_call(book, *call, table);
-        let Turn { book: after, point } = turn;
+        let Turn { book: after, point } = make_call(book, *call, table);
         book = after;
         trace.push_reserved(point);
     }
@@ -93,21 +88,28 @@ fn play<S: Device, D: Device>(
 // Closes the book if it is open, as one more call.
 fn end<S: Device, D: Device>(book: Book<S, D>, trace: &mut Vec<Point>) -> ClosedBook<S, D>
     requires { vec_len trace.old < vec_capacity trace.old }
-    ensures { Ended (view S.Device D.Device book) trace.old.items trace.new.items (closed_view (S.Device.meaning result.stock) (D.Device.meaning result.day)) }
+    ensures { Ended (view book) trace.old.items trace.new.items (closed_view S.Device D.Device result) }
 {
     match book {
         Book::Closed(book) => book,
         Book::Open(book) => {
-            let (book, point) = close_book(book);
-            trace.push_reserved(point);
+            let (mut book, answer) = close_book(book);
+            let (stock, day) = book.readings();
+            trace.push_reserved(Point {
+                call: Call::Close,
+                answer,
+                stock,
+                day,
+            });
             book
         }
     }
 }
 
-// Hands back the devices of a closed book.
-fn devices_of<S: Device, D: Device>(book: ClosedBook<S, D>) -> (S, D)
-    ensures { (result.0 ≡ book.stock) × (result.1 ≡ book.day) }
+// Hands back the devices of a closed book, and lets go of the memory.
+fn hand_back<S: Device, D: Device>(book: ClosedBook<S, D>) -> (S, D)
+    ensures stock { result.0 ≡ (devices_of book).0 }
+    ensures day { result.1 ≡ (devices_of book).1 }
 {
     let (stock, day, _rooms) = book.into_parts();
     (stock, day)
@@ -121,17 +123,18 @@ pub fn run<S: Device, D: Device>(
     day: D,
     calls: &[Call],
 ) -> Result<Finished<S, D>, NotRun<S, D>>
-    ensures { MatchResult result (λ done. Traced (S.Device.meaning stock) (D.Device.meaning day) calls.now done.trace.items (S.Device.meaning done.stock) (D.Device.meaning done.day)) (λ left. LeftOver (S.Device.meaning stock) (D.Device.meaning day) left.reason (S.Device.meaning left.stock) (D.Device.meaning left.day)) }
+    ensures finished { IfOk result (λ done. Traced (S.Device.meaning stock) (D.Device.meaning day) calls.now
+        done.trace.items (S.Device.meaning done.stock) (D.Device.meaning done.day)) }
+    ensures not_run { IfErr result (λ left. LeftOver (S.Device.meaning stock) (D.Device.meaning day)
+        left.reason (S.Device.meaning left.stock) (D.Device.meaning left.day)) }
 {
-    let memory = match reserve(heap, calls.len()) {
-        Ok(memory) => memory,
-        Err(_) => {
-            return Err(NotRun {
-                stock,
-                day,
-                reason: Reason::NoMemory,
-            });
-        }
+    // The devices go back with the reason, so `?` does not do.
+    let Ok(memory) = reserve(heap, calls.len()) else {
+        return Err(NotRun {
+            stock,
+            day,
+            reason: Reason::NoMemory,
+        });
     };
     let Memory {
         rooms,
@@ -140,7 +143,7 @@ pub fn run<S: Device, D: Device>(
     } = memory;
     let mut book = ClosedBook::new(stock, day, rooms);
     if let Err(refusal) = book.format() {
-        let (stock, day) = devices_of(book);
+        let (stock, day) = hand_back(book);
         return Err(NotRun {
             stock,
             day,
@@ -149,6 +152,6 @@ pub fn run<S: Device, D: Device>(
     }
     let book = play(Book::Closed(book), calls, &mut table, &mut trace);
     let book = end(book, &mut trace);
-    let (stock, day) = devices_of(book);
+    let (stock, day) = hand_back(book);
     Ok(Finished { stock, day, trace })
 }

@@ -1,1 +1,1 @@
-pub mod Parted
+pub mod Middle

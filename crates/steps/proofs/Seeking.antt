@@ -9,7 +9,7 @@ use Rattle.plan.specs.Images.{Image, Try, bind}
 use Rattle.plan.specs.Images.Try.{done, stop}
 use Rattle.plan.specs.Queries.{Answered, seek, by_verdict, judged, place_among}
 use Rattle.plan.specs.Steps.{Fetched, fetch_child}
-use Rattle.plan.specs.declared.report.Report.{Report}
+use Rattle.plan.specs.Reports.{Report}
 
 module _ (C : Code) (d : Image) (next : ℕ) (x : Node) (k : ℕ) (met : Option ℕ) (n : ℕ) where
   -- the rest of the way, from the child that was read

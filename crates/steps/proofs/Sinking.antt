@@ -1,12 +1,14 @@
 -- A turn of the way down, and its ends.
-use Rattle.std.proofs.Common.{◌≡◌, ℕ, zero, suc, ◌+◌, ◌-◌, ◌%◌, ◌^◌, true, false, ltb, length, sym, refl, ap, ◌∙◌, arith}
+use Rattle.std.proofs.Common.{◌≡◌, ℕ, zero, suc, ◌+◌, ◌-◌, ◌%◌, ◌^◌, true, false, ltb, length, is_ok, Ok, Err, Result, sym, refl, ap, ◌∙◌, arith}
 use Rattle.std.proofs.lemmas.Bool.Decides.{nat_tests}
 use Rattle.tree.specs.Nodes.{Node}
 use Rattle.plan.specs.Codes.{Code}
 use Rattle.plan.specs.Images.{Image, Try, bind, save}
 use Rattle.plan.specs.Images.Try.{done, stop}
 use Rattle.plan.specs.Steps.{Step, Sunk, step, sink, finish, step_due}
-use Rattle.plan.specs.declared.report.Report.{Report}
+use Rattle.plan.specs.Reports.{Report}
+use Rattle.steps.specs.Causes.{tried}
+use Rattle.plan.specs.declared.cause.Cause.{Cause}
 
 module _ (C : Code) (d : Image) (next w at : ℕ) (x : Node) where
   -- the rest of the way, once the step is made, and once the node is written too
@@ -45,9 +47,10 @@ module _ (C : Code) (d : Image) (next w at : ℕ) (x : Node) where
       ap (λ n. onward n s f) k
       ∙ ap (λ t. bind t (onward (x.frame.level - 1) s)) e' ∙ ap (λ t. bind t (written (x.frame.level - 1))) e ∙ sym (due x.frame.level refl h) ∙ inv
 
-  pub last_stops : (y : Try Sunk) (f : Image) (z : Report) → sink C x.frame.level d next w at x ≡ y → false ≡ step_due x → stop f z ≡ save d at (C.encode x) → stop f z ≡ y
-  last_stops y f z inv h e = ap (λ t. bind t ended) e ∙ sym (not_due x.frame.level refl h) ∙ inv
-
-  pub ends : (y : Try Sunk) (f : Image) → sink C x.frame.level d next w at x ≡ y → false ≡ step_due x → done f ≡ save d at (C.encode x)
-      → done (record { image = f; next = next; writes = (w + 1) % 2 ^ 64 }) ≡ y
-  ends y f inv h e = ap (λ t. bind t ended) e ∙ sym (not_due x.frame.level refl h) ∙ inv
+  -- the last node is written, or not
+  pub ends : {F : Type 0} (number : F → ℕ) (r : Result (Unit {0}) (Cause F)) (y : Try Sunk) (f : Image) (n v : ℕ) → sink C x.frame.level d next w at x ≡ y → false ≡ step_due x
+      → tried number r f (λ _. f) ≡ save d at (C.encode x) → n ≡ next → (is_ok r ≡ true → v ≡ (w + 1) % 2 ^ 64)
+      → tried number r f (λ _. record { image = f; next = n; writes = v }) ≡ y
+  ends number (Ok u) y f n v inv h e same count =
+      (λ i. done (record { image = f; next = same i; writes = count refl i })) ∙ ap (λ t. bind t ended) e ∙ sym (not_due x.frame.level refl h) ∙ inv
+  ends number (Err c) y f n v inv h e same count = ap (λ t. bind t ended) e ∙ sym (not_due x.frame.level refl h) ∙ inv

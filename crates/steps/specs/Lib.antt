@@ -1,3 +1,3 @@
 pub mod Causes
-pub mod Pages
 pub mod Allowances
+pub mod Outcomes

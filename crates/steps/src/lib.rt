@@ -2,7 +2,7 @@
 #![tactic(auto)]
 
 pub mod access;
-pub mod cause;
+pub mod bench;
 pub mod gathering;
 pub mod page;
 pub mod progress;

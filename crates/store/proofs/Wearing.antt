@@ -5,14 +5,14 @@ use Rattle.messages.specs.declared.entry.Entry.{Entry}
 use Rattle.messages.specs.declared.message.Message.{Message}
 use Rattle.nodes.specs.Roots.{Root}
 use Rattle.steps.specs.Allowances.{rise, Spent}
-use Rattle.steps.specs.declared.cause.Cause.{Cause}
+use Rattle.plan.specs.declared.cause.Cause.{Cause}
 use Rattle.store_laws.specs.Held.{Holds}
 use Rattle.store_laws.specs.LaidOut.{wear_of}
 use Rattle.store_laws.specs.Laws.{UpdateOutcome}
 use Rattle.store_plan.specs.Contents.{Contents, Called}
 use Rattle.store_plan.specs.Contents.Answer.{accepted}
 use Rattle.store_plan.specs.declared.figures.Figures.{Figures}
-use Rattle.store_plan.specs.declared.refusal.StoreRefusal.{StoreRefusal}
+use Rattle.plan.specs.declared.refusal.StoreRefusal.{StoreRefusal}
 use Rattle.tree.specs.Update.{grown, writes, tree_writes}
 use Rattle.store.specs.Views.{answer, open_root}
 use Rattle.store.specs.declared.fault.Fault.{Fault}

@@ -3,11 +3,10 @@ use Rattle.std.specs.Prelude.{ℕ, Some, None, Ok, Err, Option, Result}
 use Rattle.blocks.specs.declared.device.Device.{Ghosts}
 use Rattle.nodes.specs.Roots.{Root, view_root}
 use Rattle.plan.specs.Images.{image}
-use Rattle.plan.specs.declared.report.Report.{Report}
-use Rattle.store_plan.specs.Contents.{Contents, Answer}
+use Rattle.plan.specs.Reports.{Report, told_by}
+use Rattle.store_plan.specs.Contents.{Contents, Answer, Called}
 use Rattle.store_plan.specs.Contents.Answer.{accepted, refused, was_stopped}
-use Rattle.steps.specs.Causes.{report}
-use Rattle.steps.specs.declared.cause.Cause.{Cause}
+use Rattle.plan.specs.declared.cause.Cause.{Cause}
 use Rattle.store.specs.declared.fault.Fault.{Fault}
 use Rattle.store.specs.declared.fault.Fault.TheVariants.{Met, Stopped}
 use Rattle.store.specs.declared.store.Store.{Store}
@@ -18,7 +17,7 @@ open_root (Some c) r = None
 
 abbrev pub first_report : {F : Type 0} → (F → ℕ) → Option (Cause F) → Option Report
 first_report number None = None
-first_report number (Some c) = Some (report number c)
+first_report number (Some c) = Some (told_by number c)
 
 abbrev pub contents : {D K F : Type 0} → (G : Ghosts D F) → Store D K F G → Contents
 contents G s = record {
@@ -28,7 +27,16 @@ contents G s = record {
   figures = record { updates = s.workspace.root.updates; height = s.height; tree_writes = s.workspace.root.tree_writes };
 }
 
+-- the fault of a call where the store was stopped before
+abbrev pub stopped_before : {F : Type 0} → Option (Cause F) → Option (Fault F)
+stopped_before None = None
+stopped_before (Some c) = Some (Stopped c)
+
 abbrev pub answer : {T F : Type 0} → (F → ℕ) → Result T (Fault F) → Answer T
 answer number (Ok x) = accepted x
-answer number (Err (Met c)) = refused (report number c)
-answer number (Err (Stopped c)) = was_stopped (Some (report number c))
+answer number (Err (Met c)) = refused (told_by number c)
+answer number (Err (Stopped c)) = was_stopped (Some (told_by number c))
+
+-- what a call that left the store s answered
+abbrev pub call_of : {T D K F : Type 0} (G : Ghosts D F) → Result T (Fault F) → Store D K F G → Called T
+call_of G r s = record { answer = answer G.number r; contents = contents G s }

@@ -1,4 +1,5 @@
-// One ordered store of one kind on one device.
+// One ordered store of one kind on one device. A call that has a law stands beside its body, a function apart: the law is shown once from the
+// body's clause, whatever exits the body has.
 #![tactic(auto)]
 
 pub mod asking;

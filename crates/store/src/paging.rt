@@ -1,32 +1,32 @@
 // A page of a store.
-ghost use Rattle.std.specs.Prelude.{◌≡◌, ℕ, ◌<◌, ◌≤◌, length, IfOk, Some, None};
-ghost use Rattle.store.specs.Views.{contents, answer};
+ghost use Rattle.std.specs.Prelude.{◌≡◌, ℕ, ◌<◌, ◌≤◌, length, IfOk, OnOk, Some};
+ghost use Rattle.messages.specs.Outcomes.{ok_unless};
+ghost use Rattle.steps.specs.Outcomes.{SameAllowance};
+ghost use Rattle.store.specs.Views.{call_of, contents};
 ghost use Rattle.store_laws.specs.LaidOut.{PageLaidOut};
-ghost use Rattle.store_plan.specs.Pages.{filled, page_refusal, paged_store};
+ghost use Rattle.store_plan.specs.Pages.{filled, page_refusal, paged_store, GoesOn};
 
 use crate::fault::Fault;
 use crate::store::Store;
 use blocks::device::Device;
 use messages::entry::Entry;
 use messages::kind::Kind;
-use steps::cause::Cause;
+use plan::refusal::StoreRefusal;
 use steps::gathering::MOST_IN_PAGE;
-use steps::page::page_root;
 use store_plan::page::Page;
-use store_plan::refusal::StoreRefusal;
 
-// Why a page in a table of so many entries is refused, the first reason that holds.
-fn page_refusal(low: u32, high: u32, room: usize) -> Option<StoreRefusal>
-    ensures value { result ≡ page_refusal low high room }
-    ensures room { result ≡ None → 2304 ≤ room }
+// Whether a page may be put in a table of so many entries; else the first condition that fails.
+fn check_page(low: u32, high: u32, room: usize) -> Result<(), StoreRefusal>
+    ensures value { result ≡ ok_unless (page_refusal low high room) tt }
+    ensures room { OnOk result (2304 ≤ room) }
 {
     if low > high {
-        return Some(StoreRefusal::EmptyRange);
+        return Err(StoreRefusal::EmptyRange);
     }
     if room < MOST_IN_PAGE {
-        return Some(StoreRefusal::ShortPage);
+        return Err(StoreRefusal::ShortPage);
     }
-    None
+    Ok(())
 }
 
 // Writes a page's entries to the front of the table, and zeros after them.
@@ -47,30 +47,17 @@ impl<D: Device, K: Kind> Store<D, K> {
         high: u32,
         table: &mut [Entry<u64>],
     ) -> Result<Page, Fault<D::Fault>>
-        ensures value { record { called = record { answer = answer D.Device.number result; contents = contents D.Device self.new }; table = table.new } ≡ paged_store K.Kind.algebra (contents D.Device self.old) (contents D.Device self.old).root low high table.old }
-        ensures allowance { (D.Device.meaning self.new.device).allowance ≡ (D.Device.meaning self.old.device).allowance }
-        ensures onward { IfOk result (λ p. (k : ℕ) → p.next ≡ Some k → (low < k) × (k ≤ high)) }
+        ensures value { record { called = call_of D.Device result self.new; table = table.new } ≡ paged_store K.Kind.algebra (contents D.Device self.old) (contents D.Device self.old).root low high table.old }
+        ensures allowance { SameAllowance D.Device self.old.device self.new.device }
+        ensures onward { IfOk result (GoesOn low high) }
         ensures fits { IfOk result (λ p. (p.entries ≤ 2304) × (p.entries ≤ length table.old)) }
     {
-        if let Some(first) = self.stopped {
-            return Err(Fault::Stopped(first));
-        }
-        if let Some(refusal) = page_refusal(low, high, table.len()) {
-            return Err(Fault::Met(Cause::Store(refusal)));
-        }
-        match page_root::<D, K>(
-            &mut self.device,
-            &mut self.workspace.scratch.block,
-            self.workspace.root.next_free,
-            &self.workspace.root.node,
-            &mut self.workspace.here,
-            &mut self.workspace.child,
-            low,
-            high,
-            &mut self.workspace.gathering,
-        ) {
+        self.check_open()?;
+        check_page(low, high, table.len())?;
+        let bench = &mut self.workspace.bench;
+        match bench.page::<D, K>(&mut self.device, &self.workspace.root, low, high) {
             Ok(page) => {
-                fill_table(table, &self.workspace.gathering.entries);
+                fill_table(table, &bench.gathering.entries);
                 Ok(page)
             }
             Err(cause) => {
@@ -88,11 +75,11 @@ impl<D: Device, K: Kind> Store<D, K> {
         high: u32,
         table: &mut [Entry<u64>],
     ) -> Result<Page, Fault<D::Fault>>
-        ensures value { record { called = record { answer = answer D.Device.number result; contents = contents D.Device self.new }; table = table.new } ≡ paged_store K.Kind.algebra (contents D.Device self.old) (contents D.Device self.old).root low high table.old }
-        ensures allowance { (D.Device.meaning self.new.device).allowance ≡ (D.Device.meaning self.old.device).allowance }
-        ensures onward { IfOk result (λ p. (k : ℕ) → p.next ≡ Some k → (low < k) × (k ≤ high)) }
+        ensures value { record { called = call_of D.Device result self.new; table = table.new } ≡ paged_store K.Kind.algebra (contents D.Device self.old) (contents D.Device self.old).root low high table.old }
+        ensures allowance { SameAllowance D.Device self.old.device self.new.device }
+        ensures onward { IfOk result (GoesOn low high) }
         ensures fits { IfOk result (λ p. (p.entries ≤ 2304) × (p.entries ≤ length table.old)) }
-        ensures laid_out { PageLaidOut K.Kind.algebra (contents D.Device self.old) low high table.old (record { called = record { answer = answer D.Device.number result; contents = contents D.Device self.new }; table = table.new }) }
+        ensures laid_out { PageLaidOut K.Kind.algebra (contents D.Device self.old) low high table.old (record { called = call_of D.Device result self.new; table = table.new }) }
     {
         self.turn(low, high, table)
     }

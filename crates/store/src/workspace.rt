@@ -2,21 +2,15 @@
 ghost use Rattle.std.specs.Prelude.{◌≡◌, IfOk};
 ghost use Rattle.nodes.specs.Roots.{fresh_root, view_root};
 
-use nodes::node::Node;
 use nodes::root::Root;
-use rules::limits::BLOCK_SIZE;
 use std::alloc::{AllocError, Global};
-use steps::gathering::{Gathering, MOST_GATHERED, MOST_IN_PAGE};
-use steps::scratch::Scratch;
+use steps::bench::Bench;
 
-// Four nodes, the root among them, a block and a batch, and what a page gathers.
+// The root, and the bench that it is worked on.
 #[derive(Drop)]
 pub struct Workspace {
     pub(crate) root: Root,
-    pub(crate) here: Node,
-    pub(crate) child: Node,
-    pub(crate) scratch: Scratch,
-    pub(crate) gathering: Gathering,
+    pub(crate) bench: Bench,
 }
 
 impl Workspace {
@@ -26,18 +20,7 @@ impl Workspace {
     {
         Ok(Workspace {
             root: Root::new(heap, 0)?,
-            here: Node::new(heap)?,
-            child: Node::new(heap)?,
-            scratch: Scratch {
-                block: [0; BLOCK_SIZE],
-                other: Node::new(heap)?,
-                batch: Vec::with_capacity(heap, 16)?,
-            },
-            gathering: Gathering {
-                gathered: Vec::with_capacity(heap, MOST_GATHERED)?,
-                spare: Vec::with_capacity(heap, MOST_GATHERED)?,
-                entries: Vec::with_capacity(heap, MOST_IN_PAGE)?,
-            },
+            bench: Bench::new(heap)?,
         })
     }
 }

@@ -13,8 +13,8 @@ use Rattle.plan.specs.Pages.{Paged, page_from}
 use Rattle.plan.specs.Queries.{seek}
 use Rattle.plan.specs.Queries as plan
 use Rattle.plan.specs.Steps.{Settled, updated}
-use Rattle.store_plan.specs.declared.refusal.StoreRefusal.{StoreRefusal}
-use Rattle.store_plan.specs.declared.refusal.StoreRefusal.TheVariants.{EmptyRange, ShortPage}
+use Rattle.plan.specs.declared.refusal.StoreRefusal.{StoreRefusal}
+use Rattle.plan.specs.declared.refusal.StoreRefusal.TheVariants.{EmptyRange, ShortPage}
 use Rattle.bridge.specs.Laws.{Room, Updated, Found, PageFound}
 use Rattle.bridge.specs.Stored.{WordFits}
 use Rattle.bridge.specs.Work.{Work}

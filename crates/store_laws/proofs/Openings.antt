@@ -9,7 +9,7 @@ use Rattle.nodes.specs.Blocks.{header_of}
 use Rattle.nodes.specs.Checks.{root_fault}
 use Rattle.nodes.specs.Roots.{Root, root_block, root_of, fresh_root}
 use Rattle.nodes.proofs.RoundTrips.{root_back}
-use Rattle.node_ops.specs.CodeOf.{code_of, number_of_rule}
+use Rattle.node_ops.specs.CodeOf.{code_of}
 use Rattle.plan.specs.Images.{Image, Try, bind, image_read, image_written}
 use Rattle.plan.specs.Images.Try.{done}
 use Rattle.rules.specs.Marks.{mark_of}
@@ -76,8 +76,8 @@ module _ (K : Algebra) (d : Image) (h : List (Entry Message)) (rests : Rests K d
       let fault : root_fault d.size bs ≡ None = ap (root_fault d.size) is ∙ back.0 in
       let root : root_of bs ≡ kept = ap root_of is ∙ back.1 in
       let mark : mark_of (header_of bs).mark ≡ Closed = ap (λ x. mark_of (header_of x).mark) is ∙ back.2 in
-      ap (λ t. bind t (λ e. by_rule (number_of_rule (root_fault d.size bs)) e bs)) (load_sound d 0 inside rests.sound)
-      ∙ ap (λ o. by_rule (number_of_rule o) (image_read d) bs) fault
+      ap (λ t. bind t (λ e. by_rule (root_fault d.size bs) e bs)) (load_sound d 0 inside rests.sound)
+      ∙ ap (λ o. by_rule o (image_read d) bs) fault
       ∙ (λ i. done (record { image = image_read d; root = root i; mark = mark i }))
 
   taken_is : by_kind K Closed (image_read d) kept ≡ done (record { image = after; root = kept })

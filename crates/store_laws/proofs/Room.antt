@@ -2,8 +2,8 @@
 use Rattle.std.proofs.Common.{◌≡◌, ℕ, suc, ◌+◌, ◌-◌, ◌≤◌, Bool, true, false, cond, ◌&&◌, eqb, ltb, ◌≢◌, List, length, Some, None, Option, refl, ap, arith}
 use Rattle.std.proofs.lemmas.Bool.{eqb-true, eqb-false, ltb-false, eq-eqb, and_from}
 use Rattle.nodes.specs.Roots.{Root}
-use Rattle.store_plan.specs.declared.refusal.StoreRefusal.{StoreRefusal}
-use Rattle.store_plan.specs.declared.refusal.StoreRefusal.TheVariants.{FullCount, NoRoom}
+use Rattle.plan.specs.declared.refusal.StoreRefusal.{StoreRefusal}
+use Rattle.plan.specs.declared.refusal.StoreRefusal.TheVariants.{FullCount, NoRoom}
 use Rattle.store_plan.specs.Updates.{update_refusal}
 use Rattle.tree.specs.Nodes.{Node, node, height}
 use Rattle.tree.specs.Operations.{cut_root}

@@ -10,7 +10,7 @@ use Rattle.store_plan.specs.Openings.{figures_of}
 use Rattle.store_plan.specs.Pages.{PagedStore, page_refusal}
 use Rattle.store_plan.specs.Updates.{update_refusal, by_refusal}
 use Rattle.store_plan.specs.declared.figures.Figures.{Figures}
-use Rattle.store_plan.specs.declared.refusal.StoreRefusal.{StoreRefusal}
+use Rattle.plan.specs.declared.refusal.StoreRefusal.{StoreRefusal}
 use Rattle.tree.specs.Update.{writes, grown}
 use Rattle.store_laws.specs.Held.{root_of_tree, Holds, Rests}
 use Rattle.store_laws.specs.Laws.{UpdateOutcome, Answered, PageOutcome, Formatted, AtRest, StandsAgain}

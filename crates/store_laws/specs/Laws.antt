@@ -11,9 +11,9 @@ use Rattle.plan.specs.Images.Try.{done}
 use Rattle.rules.specs.declared.mark.Mark.TheVariants.{Closed, InUse}
 use Rattle.bridge.specs.Stored.{WordFits}
 use Rattle.bridge.specs.Work.{AllSound, Work}
-use Rattle.store_plan.specs.Refusals.{store_report}
+use Rattle.plan.specs.Reports.{store_report}
 use Rattle.store_plan.specs.declared.page.Page.{Page as PageReply}
-use Rattle.store_plan.specs.declared.refusal.StoreRefusal.{StoreRefusal}
+use Rattle.plan.specs.declared.refusal.StoreRefusal.{StoreRefusal}
 use Rattle.store_plan.specs.Contents.{Contents, Called}
 use Rattle.store_plan.specs.Contents.Answer.{accepted, refused}
 use Rattle.store_plan.specs.Openings.{Opened, format_writes, formatted, opened, opening, closed}

@@ -2,7 +2,7 @@
 use Rattle.std.specs.Prelude.{Option}
 use Rattle.nodes.specs.Roots.{Root}
 use Rattle.plan.specs.Images.{Image}
-use Rattle.plan.specs.declared.report.Report.{Report}
+use Rattle.plan.specs.Reports.{Report}
 use Rattle.store_plan.specs.declared.figures.Figures.{Figures}
 
 -- the device's image; the root while the store is open, else the report of what stopped it; and the figures

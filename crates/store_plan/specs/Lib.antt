@@ -1,4 +1,3 @@
-pub mod Refusals
 pub mod Contents
 pub mod Updates
 pub mod Openings

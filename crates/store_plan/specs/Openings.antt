@@ -3,18 +3,19 @@ use Rattle.std.specs.Prelude.{ℕ, cond, List, Some, None, Option, ◌==◌, nat
 use Rattle.blocks.specs.declared.state.State.{State}
 use Rattle.blocks.specs.declared.state.State.TheVariants.{Sound, Damaged, Lost}
 use Rattle.messages.specs.Algebra.{Algebra}
-use Rattle.node_ops.specs.CodeOf.{code_of, number_of_rule}
+use Rattle.node_ops.specs.CodeOf.{code_of}
 use Rattle.nodes.specs.Blocks.{header_of}
 use Rattle.nodes.specs.Checks.{root_fault}
 use Rattle.nodes.specs.Roots.{Root, root_block, root_of, fresh_root}
-use Rattle.plan.specs.Images.{Image, Try, bind, load, save, image_written, node_report}
+use Rattle.plan.specs.Images.{Image, Try, bind, load, save, image_written}
 use Rattle.plan.specs.Images.Try.{done, stop}
 use Rattle.rules.specs.Marks.{mark_of}
 use Rattle.rules.specs.declared.mark.Mark.{Mark}
 use Rattle.rules.specs.declared.mark.Mark.TheVariants.{Closed, InUse}
-use Rattle.store_plan.specs.Refusals.{store_report}
-use Rattle.store_plan.specs.declared.refusal.StoreRefusal.{StoreRefusal}
-use Rattle.store_plan.specs.declared.refusal.StoreRefusal.TheVariants.{NoRoom, NoSuchBlock, Spent, Lost as lost, WrongKind, NotClosed}
+use Rattle.plan.specs.Reports.{node_report, store_report}
+use Rattle.rules.specs.declared.rule.Rule.{Rule}
+use Rattle.plan.specs.declared.refusal.StoreRefusal.{StoreRefusal}
+use Rattle.plan.specs.declared.refusal.StoreRefusal.TheVariants.{NoRoom, NoSuchBlock, Spent, Lost as lost, WrongKind, NotClosed}
 use Rattle.store_plan.specs.Contents.{Contents}
 use Rattle.store_plan.specs.declared.figures.Figures.{Figures}
 use Rattle.tree.specs.Nodes.{node}
@@ -70,12 +71,12 @@ pub record Loaded : Type 0 where
   pub root : Root
   pub mark : Mark
 
-abbrev pub by_rule : Option ℕ → Image → List ℕ → Try Loaded
+abbrev pub by_rule : Option Rule → Image → List ℕ → Try Loaded
 by_rule None d bs = done (record { image = d; root = root_of bs; mark = mark_of (header_of bs).mark })
 by_rule (Some rule) d bs = stop d (node_report 0 rule)
 
 abbrev pub loaded : Image → Try Loaded
-loaded d = bind (load d 0) (λ e. by_rule (number_of_rule (root_fault d.size (d.bytes 0))) e (d.bytes 0))
+loaded d = bind (load d 0) (λ e. by_rule (root_fault d.size (d.bytes 0)) e (d.bytes 0))
 
 abbrev pub opened : Algebra → Image → ℕ → Try Opened
 opened K d allowance =

@@ -1,5 +1,5 @@
 -- A page of a store: when it is refused, what it answers, and what the lent table then has.
-use Rattle.std.specs.Prelude.{ℕ, ◌-◌, cond, List, [], ◌++◌, length, replicate, Some, None, Option, nat_lt}
+use Rattle.std.specs.Prelude.{◌≡◌, ℕ, ◌-◌, ◌<◌, ◌≤◌, cond, List, [], ◌++◌, length, replicate, Some, None, Option, nat_lt}
 use Rattle.messages.specs.Algebra.{Algebra}
 use Rattle.messages.specs.declared.entry.Entry.{Entry}
 use Rattle.node_ops.specs.CodeOf.{code_of}
@@ -10,10 +10,10 @@ use Rattle.plan.specs.Pages.{Paged, page_from}
 use Rattle.store_plan.specs.Contents.{Contents, Called}
 use Rattle.store_plan.specs.Contents.Answer.{accepted, refused, was_stopped}
 use Rattle.store_plan.specs.Queries.{with_image}
-use Rattle.store_plan.specs.Refusals.{store_report}
+use Rattle.plan.specs.Reports.{store_report}
 use Rattle.store_plan.specs.declared.page.Page.{Page}
-use Rattle.store_plan.specs.declared.refusal.StoreRefusal.{StoreRefusal}
-use Rattle.store_plan.specs.declared.refusal.StoreRefusal.TheVariants.{EmptyRange, ShortPage}
+use Rattle.plan.specs.declared.refusal.StoreRefusal.{StoreRefusal}
+use Rattle.plan.specs.declared.refusal.StoreRefusal.TheVariants.{EmptyRange, ShortPage}
 
 -- the entries of any page: 256 records of a leaf, and 256 messages of each of the 8 levels above it
 abbrev pub table_length : ℕ
@@ -30,6 +30,10 @@ filled n xs = xs ++ replicate (n - length xs) no_entry
 pub record PagedStore : Type 0 where
   pub called : Called Page
   pub table : List (Entry ℕ)
+
+-- a page goes on at a key past low and up to high, if it goes on
+abbrev pub GoesOn : ℕ → ℕ → Page → Type 0
+GoesOn low high p = (k : ℕ) → p.next ≡ Some k → (low < k) × (k ≤ high)
 
 -- the refusal of a page in a table of n, the first that holds
 abbrev pub page_refusal : ℕ → ℕ → ℕ → Option StoreRefusal

@@ -7,9 +7,9 @@ use Rattle.nodes.specs.Roots.{Root}
 use Rattle.plan.specs.Images.{Try}
 use Rattle.plan.specs.Images.Try.{done, stop}
 use Rattle.plan.specs.Steps.{Settled, updated}
-use Rattle.store_plan.specs.Refusals.{store_report}
-use Rattle.store_plan.specs.declared.refusal.StoreRefusal.{StoreRefusal}
-use Rattle.store_plan.specs.declared.refusal.StoreRefusal.TheVariants.{FullCount, NoRoom, Spent}
+use Rattle.plan.specs.Reports.{store_report}
+use Rattle.plan.specs.declared.refusal.StoreRefusal.{StoreRefusal}
+use Rattle.plan.specs.declared.refusal.StoreRefusal.TheVariants.{FullCount, NoRoom, Spent}
 use Rattle.store_plan.specs.Contents.{Contents, Answer, Called}
 use Rattle.store_plan.specs.Contents.Answer.{accepted, refused, was_stopped}
 

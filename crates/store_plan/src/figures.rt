@@ -1,5 +1,5 @@
 // What a store tells of itself.
-#[derive(Clone, Copy, PartialEq, Eq, Debug)]
+#[derive(Clone, Copy, PartialEq, Eq, Debug, Default)]
 pub struct Figures {
     // The updates that it has accepted.
     pub updates: u64,

@@ -3,4 +3,3 @@
 
 pub mod figures;
 pub mod page;
-pub mod refusal;

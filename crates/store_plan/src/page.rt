@@ -1,7 +1,7 @@
 // What a page answers; its entries stand in the table that it was lent.
 #[derive(Clone, Copy, PartialEq, Eq, Debug)]
 pub struct Page {
-    // How many entries of the table are filled.
+    // How many entries of the table are filled: a count, since the table is the caller's.
     pub entries: usize,
     // The blocks read.
     pub reads: u32,

@@ -1,8 +1,8 @@
-// The FNV-1a digest of bytes, 64 bits wide.
+use trial_runs::digest::{NO_DIGEST, mix};
+
+// The digest of bytes.
 pub fn digest(bytes: &[u8]) -> u64 {
-    let mut sum: u64 = 14695981039346656037;
-    for byte in bytes {
-        sum = (sum ^ u64::from(*byte)).wrapping_mul(1099511628211);
-    }
-    sum
+    bytes
+        .iter()
+        .fold(NO_DIGEST, |sum, byte| mix(sum, u64::from(*byte)))
 }

@@ -3,46 +3,36 @@
 #![tactic(auto)]
 
 mod digest;
-mod runs;
 
 use crate::digest::digest;
-use crate::runs::{Cost, Run, make_run};
+use blocks::limits::BLOCK_BYTES;
+use blocks::memory::MemoryDevice;
 use std::io;
-use store_plan::figures::Figures;
+use store::workspace::Workspace;
+use trial_runs::cards::{CARD_BYTES, PLENTY};
+use trial_runs::cost::close;
+use trial_runs::fresh::new_store;
+use trial_runs::run::{MODEL_RUNS, make_updates};
 
-const RUNS: [Run; 4] = [Run::Rising, Run::Falling, Run::Scattered, Run::Mixed];
-
-fn print_cost(rt: &impl Print, run: Run, cost: Cost) -> io::Result<()> {
-    let title = run.title();
-    let Cost {
-        figures,
-        reads,
-        writes,
-    } = cost;
-    let Figures {
-        updates,
-        height,
-        tree_writes,
-    } = figures;
-    println!(rt;
-        "{title}: updates {updates}, height {height}, tree writes {tree_writes}, reads {reads}, writes {writes}"
-    )
-}
+// The blocks that the tree has taken after each run.
+const BLOCKS_TAKEN: [usize; 4] = [3, 12, 16, 22];
 
 fn print_digests(rt: &impl Print, bytes: &[u8], blocks: usize) -> io::Result<()> {
-    for (block, part) in bytes.chunks(4096).take(blocks).enumerate() {
-        let sum = digest(part);
-        println!(rt; "  block {block} {sum:016x}")?;
+    for (block, part) in bytes.chunks(BLOCK_BYTES).take(blocks).enumerate() {
+        println!(rt; "  block {block} {:016x}", digest(part))?;
     }
     Ok(())
 }
 
 fn main(rt: HostRuntime) -> io::Result<()> {
-    let mut bytes = vec![in rt.alloc(); 0u8; 262144]?;
-    for kind in RUNS.iter() {
-        let cost = make_run(rt.alloc(), &mut bytes, *kind)?;
-        print_cost(&rt, *kind, cost)?;
-        print_digests(&rt, &bytes, kind.blocks())?;
+    let mut bytes = vec![in rt.alloc(); 0u8; CARD_BYTES]?;
+    for (run, blocks) in MODEL_RUNS.iter().zip(&BLOCKS_TAKEN) {
+        let workspace = Workspace::new(rt.alloc())?;
+        let mut store = new_store(MemoryDevice::new(&mut bytes, PLENTY), workspace);
+        make_updates(&mut store, *run);
+        let cost = close(store);
+        println!(rt; "{}: {cost}", run.order)?;
+        print_digests(&rt, &bytes, *blocks)?;
     }
     Ok(())
 }

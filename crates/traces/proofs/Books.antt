@@ -14,9 +14,9 @@ use Rattle.store_laws.specs.Held.{root_of_tree}
 use Rattle.store_plan.specs.Contents.{Contents}
 use Rattle.store_plan.specs.Openings.{opened as opened_store, opening}
 use Rattle.store_plan.specs.Queries.{queried as queried_store}
-use Rattle.store_plan.specs.Refusals.{store_report}
+use Rattle.plan.specs.Reports.{store_report}
 use Rattle.store_plan.specs.Updates.{update_refusal}
-use Rattle.store_plan.specs.declared.refusal.StoreRefusal.{StoreRefusal}
+use Rattle.plan.specs.declared.refusal.StoreRefusal.{StoreRefusal}
 use Rattle.calls.specs.declared.answer.Answer.{Answer}
 use Rattle.calls.specs.declared.answer.Answer.TheVariants.{NotMade, Opened, Refused, Figures as figures_answer}
 use Rattle.calls.specs.declared.answer.Found.{Found}

@@ -14,7 +14,7 @@ use Rattle.store_laws.proofs.Openings.{format_law}
 use Rattle.store_plan.specs.Contents.{Contents}
 use Rattle.store_plan.specs.Openings.{format_refusal, format_writes, formatted}
 use Rattle.store_plan.specs.declared.figures.Figures.{Figures}
-use Rattle.store_plan.specs.declared.refusal.StoreRefusal.{StoreRefusal}
+use Rattle.plan.specs.declared.refusal.StoreRefusal.{StoreRefusal}
 use Rattle.calls.specs.declared.answer.Answer.TheVariants.{Found as found_answer, Total as total_answer, Figures as figures_answer}
 use Rattle.calls.specs.declared.answer.Found.{Found}
 use Rattle.calls.specs.declared.answer.Sum.{Sum}
@@ -184,15 +184,15 @@ module _ (stock_start day_start : ℕ) where
 
   -- ---- answers
   figures_seen : (part : Part) (f : Figures) (v w : View) → Does v (figures_call part) (figures_answer f) w → (p : Point) → p.stock ≡ stock_reading w → p.day ≡ day_reading w
-      → (f.updates ≡ (reading part p).updates) × (f.height ≡ (reading part p).height) × (f.tree_writes ≡ (reading part p).tree_writes)
+      → f ≡ (reading part p).figures
   figures_seen part f (closed m n) w o p g h = let z : ◌≡◌ {A = ℕ} 0 1 = cc o.answer_is in absurd (omega arith)
   figures_seen part f (opened c a d b) (closed m n) o p g h = absurd o
   figures_seen Stock f (opened c a d b) (opened c' a' d' b') o p g h =
       let is : f ≡ c'.figures = cc (o.answer_is, o.stock_is) in
-      (ap (λ x. x.updates) is ∙ sym (ap (λ r. r.updates) g), ap (λ x. x.height) is ∙ sym (ap (λ r. r.height) g), ap (λ x. x.tree_writes) is ∙ sym (ap (λ r. r.tree_writes) g))
+      is ∙ sym (ap (λ r. r.figures) g)
   figures_seen Day f (opened c a d b) (opened c' a' d' b') o p g h =
       let is : f ≡ d'.figures = cc (o.answer_is, o.day_is) in
-      (ap (λ x. x.updates) is ∙ sym (ap (λ r. r.updates) h), ap (λ x. x.height) is ∙ sym (ap (λ r. r.height) h), ap (λ x. x.tree_writes) is ∙ sym (ap (λ r. r.tree_writes) h))
+      is ∙ sym (ap (λ r. r.figures) h)
 
   plain_at : (before : List Point) (p : Point) (v w : View) → KeptSo before v → Made v p w → Plain (changes before) p
   plain_at before p v w k made = record {
@@ -217,8 +217,8 @@ module _ (stock_start day_start : ℕ) where
         let day_is = made.day_read ∙ seen.to_day in
         let stock_before = stock-was ∙ ap stock_reading seen.from_is in
         let day_before = day-was ∙ ap day_reading seen.from_is in
-        let stock_high = ap (λ r. r.height) stock_is ∙ ap (λ x. x.height) kept.keeps.stock.figures_are in
-        let day_high = ap (λ r. r.height) day_is ∙ ap (λ x. x.height) kept.keeps.day.figures_are in
+        let stock_high = ap (λ r. r.figures.height) stock_is ∙ ap (λ x. x.height) kept.keeps.stock.figures_are in
+        let day_high = ap (λ r. r.figures.height) day_is ∙ ap (λ x. x.height) kept.keeps.day.figures_are in
         let stock_read = ap (λ g. g.stock_reads) is in
         let day_read = ap (λ g. g.day_reads) is in (
           omega (arith, kept.stock_at_most, stock_read, stock_high),
@@ -234,9 +234,9 @@ module _ (stock_start day_start : ℕ) where
         let day_is = made.day_read ∙ seen.to_day in
         let stock_before = stock-was ∙ ap stock_reading seen.from_is in
         let day_before = day-was ∙ ap day_reading seen.from_is in
-        let stock_high = ap (λ r. r.height) stock_is ∙ ap (λ x. x.height) kept.holds.figures_are in
+        let stock_high = ap (λ r. r.figures.height) stock_is ∙ ap (λ x. x.height) kept.holds.figures_are in
         let stock_read = ap (λ g. g.stock_reads) is in (
-          subst (λ z. z.stock_reads ≡ z.pages * q.stock.height) (sym is)
+          subst (λ z. z.stock_reads ≡ z.pages * q.stock.figures.height) (sym is)
               (subst (λ n. kept.sum.stock_reads ≡ kept.sum.pages * n) (sym stock_high) kept.reads_are),
           omega (arith, kept.work.reads_rise, stock_read, ap (λ r. r.reads) stock_is, ap (λ r. r.reads) stock_before, made.stock_fits),
           ap (λ r. r.reads) day_is ∙ sym (ap (λ r. r.reads) day_before),

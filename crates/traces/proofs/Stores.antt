@@ -7,13 +7,13 @@ use Rattle.messages.specs.declared.entry.Entry.{Entry}
 use Rattle.messages.specs.declared.message.Message.{Message}
 use Rattle.plan.specs.Images.{Image, Try, image}
 use Rattle.plan.specs.Images.Try.{stop}
-use Rattle.plan.specs.declared.report.Report.{Report}
+use Rattle.plan.specs.Reports.{Report}
 use Rattle.store_laws.specs.Held.{Holds, Rests}
 use Rattle.store_laws.proofs.Openings.{open_law, stands_again, close_law}
 use Rattle.store_plan.specs.Contents.{Contents}
 use Rattle.store_plan.specs.Openings.{Opened, opened, opening, closed}
-use Rattle.store_plan.specs.Refusals.{store_report}
-use Rattle.store_plan.specs.declared.refusal.StoreRefusal.TheVariants.{Spent}
+use Rattle.plan.specs.Reports.{store_report}
+use Rattle.plan.specs.declared.refusal.StoreRefusal.TheVariants.{Spent}
 use Rattle.tree.specs.Nodes.{height}
 use Rattle.tree.specs.Update.{grown, tree_writes}
 use Rattle.tree.proofs.Shapes.{good_trees}

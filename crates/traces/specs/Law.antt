@@ -87,13 +87,13 @@ changes (p ∷ ps) = changes ps ++ if_done p.answer (asked p.call)
 -- ---- wear
 -- a store that reads r, whose device had counted `start` writes before it was formatted, after so many openings, closings and updates
 pub record Worn (start openings closings updates : ℕ) (r : Reading) : Type 0 where
-  pub updates_are : r.updates ≡ updates
+  pub updates_are : r.figures.updates ≡ updates
   -- the device's own count: 2 writes of formatting, 1 of each opening and of each closing, and the tree writes
-  pub writes_are : r.writes ≡ (start + (2 + openings + closings + r.tree_writes)) % 2 ^ 64
+  pub writes_are : r.writes ≡ (start + (2 + openings + closings + r.figures.tree_writes)) % 2 ^ 64
   -- 16 updates cost at most one write for each level, the leaves' included
-  pub pace : 16 * r.tree_writes ≤ r.updates * (r.height + 1)
+  pub pace : 16 * r.figures.tree_writes ≤ r.figures.updates * (r.figures.height + 1)
   -- and a high tree has taken many updates
-  pub tall : 2 ≤ r.height → 113 * (2 * 4 ^ (r.height - 1) - 1) ≤ r.updates
+  pub tall : 2 ≤ r.figures.height → 113 * (2 * 4 ^ (r.figures.height - 1) - 1) ≤ r.figures.updates
 
 -- the book stands open after p
 abbrev pub Stands : Point → Type 0
@@ -114,7 +114,7 @@ pub record Plain (cs : List Change) (p : Point) : Type 0 where
   pub of_totals : (low high : ℕ) (s : Sum) → p.call ≡ Total low high → p.answer ≡ total_answer s → SumOf low high cs s
   -- figures are those that the store reads
   pub of_figures : (part : Part) (f : Figures) → p.call ≡ figures_call part → p.answer ≡ figures_answer f
-      → (f.updates ≡ (reading part p).updates) × (f.height ≡ (reading part p).height) × (f.tree_writes ≡ (reading part p).tree_writes)
+      → f ≡ (reading part p).figures
 
 abbrev pub AnswerLaw : List Point → Type 0
 AnswerLaw trace = (before after : List Point) (p : Point) → trace ≡ before ++ (p ∷ after) → Plain (changes before) p
@@ -124,11 +124,11 @@ AnswerLaw trace = (before after : List Point) (p : Point) → trace ≡ before +
 pub record CountedReads (p q : Point) : Type 0 where
   -- a query at most as many of each store as that is high
   pub of_queries : (sheet : ℕ) (f : Found) → q.call ≡ Query sheet → q.answer ≡ found_answer f
-      → (f.stock_reads ≤ q.stock.height) × (f.day_reads ≤ q.day.height)
+      → (f.stock_reads ≤ q.stock.figures.height) × (f.day_reads ≤ q.day.figures.height)
       × (q.stock.reads ≡ (p.stock.reads + f.stock_reads) % 2 ^ 64) × (q.day.reads ≡ (p.day.reads + f.day_reads) % 2 ^ 64)
   -- each page of a total just as many as the stock store is high
   pub of_totals : (low high : ℕ) (s : Sum) → q.call ≡ Total low high → q.answer ≡ total_answer s
-      → (s.stock_reads ≡ s.pages * q.stock.height)
+      → (s.stock_reads ≡ s.pages * q.stock.figures.height)
       × (q.stock.reads ≡ (p.stock.reads + s.stock_reads) % 2 ^ 64) × (q.day.reads ≡ p.day.reads)
 
 -- a query or a total is never the first point of a trace that is answered, since a book begins closed

@@ -13,14 +13,14 @@ parted : (x : NodeInMemory) → 0 < x.level → length (vec_items x.pivots) + 1 
 parted x inner = omega (arith, (x.inner inner).1, x.pivots.ok.0, x.children.ok.0)
 
 -- how many messages are below the node's end, and below the child at the place just before j
-ends : (c : After-place_of-upper) → c.place_of-upper.result ≡ below c.args.node.now.high (vec_items c.args.node.now.messages)
-ends c = c.place_of-upper.ensures.value ∙ ap (below c.args.node.now.high) c.deref.ensures.value
+ends : (c : After-place_of-upper) → c.place_of-upper.result ≡ below c.args.node.now.span.high (vec_items c.args.node.now.messages)
+ends c = c.place_of-upper.ensures.value ∙ ap (below c.args.node.now.span.high) c.deref.ensures.value
 
 pub children-init : goal.children-init
 children-init c =
     let x = c.args.node.now in (
-      best_none (pending_at (view x)) (vec_len x.children) c.len-j.result c.len-j.ensures,
-      λ i last. ends (goal.at.children-init c).After-place_of-upper ∙ ap (λ h. below h (vec_items x.messages)) (sym (last_bound (view x) i (parted x c.requires) (omega (arith, last, c.len-j.ensures, x.children.ok.0)))),
+      best_none (pending_at (view x)) (vec_len x.children) c.len-children.result c.len-children.ensures,
+      λ i last. ends (goal.at.children-init c).After-place_of-upper ∙ ap (λ h. below h (vec_items x.messages)) (sym (last_bound (view x) i (parted x c.requires) (omega (arith, last, c.len-children.ensures, x.children.ok.0)))),
     )
 
 -- what the turn at a child finds: the messages below its begin, and those that are pending for it

@@ -11,6 +11,3 @@ invariant-children l =
     let x = view l.node in
     Best (pending_at x) (vec_len l.node.children) l.j l.best l.most
     × ((i : ℕ) → l.j ≡ suc i → l.upper ≡ below (child_high x i) x.messages)
-
-abbrev pub decreases-children : goal.decreases-children
-decreases-children l = l.j

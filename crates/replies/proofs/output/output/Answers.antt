@@ -1,16 +1,15 @@
-use Rattle.std.proofs.Common.{ℕ, List, length, string_bytes, ap, ◌∙◌}
+use Rattle.std.proofs.Common.{◌≡◌, ℕ, List, length, string_bytes, ap, ◌∙◌, arith}
+use Rattle.std.proofs.lemmas.Grind.{common_steps}
 use Rattle.fields.specs.Parts.{lines_of}
-use Rattle.replies.specs.Output.{between, replies_to}
-use Rattle.replies.proofs.Each.{falls_apart, line_each, output_is}
+use Rattle.replies.specs.Output.{between, replies_to, output_text}
+use Rattle.replies.proofs.Each.{falls_apart, line_each}
 use Rattle.replies.proofs.output.output.Goals as goal
 
 pub returns : goal.returns
 returns c =
-    let ls = c.args.lines.now in
-    let trace = c.args.trace.now in
-    let whole = output_is (string_bytes c.in_ok-text.text) ls c.inner.result.now trace c.in_ok-text.ensures c.inner.ensures in
+    let whole : string_bytes c.loop-line.text ≡ output_text c.args.lines.now c.args.trace.now = grind (arith, common_steps) in
     record {
       text = whole;
-      parts = ap lines_of whole ∙ falls_apart (replies_to ls (between trace));
-      each = λ e. ap (λ (bs : List ℕ). length (lines_of bs)) whole ∙ line_each ls trace e;
+      parts = ap lines_of whole ∙ falls_apart (replies_to c.args.lines.now (between c.args.trace.now));
+      each = λ e. ap (λ (bs : List ℕ). length (lines_of bs)) whole ∙ line_each c.args.lines.now c.args.trace.now e;
     }

@@ -1,30 +1,20 @@
-use Rattle.std.proofs.Common.{◌+◌, ◌∷◌, get_or, drop, None, vec_items, refl, arith}
+use Rattle.std.proofs.Common.{Some}
+use Rattle.std.specs.Option.{option_to_list}
+use Rattle.std.proofs.lemmas.Iterator.{YieldsList-from_slice, items_from_collect}
+use Rattle.std.proofs.lemmas.Iterator.Consumers.{YieldsList-from_copied, YieldsList-from_chain, YieldsList-at}
+use Rattle.std.proofs.lemmas.Iterator.Adapters.{YieldsList-from_once, YieldsList-from_flatten}
 use Rattle.calls.specs.declared.call.Call.TheVariants.{Open, Close}
-use Rattle.requests.specs.Runs.{good}
-use Rattle.fields.proofs.Turns.{at_turn, at_end, last_more}
-use Rattle.requests.proofs.Steps.{some_turn, none_turn}
 use Rattle.requests.proofs.input.run_of.Goals as goal
-use Rattle.requests.proofs.input.run_of.Goals.{in-Some, in_default}
-
-pub loop-line-preserved : goal.loop-line-preserved
-loop-line-preserved c =
-    let xs = c.args.lines.now in
-    let i = c.loop-line.line-index in
-    let all = vec_items c.loop-line.calls in
-    let whole = Open ∷ good xs in
-    let turn = at_turn good None xs i all whole c.loop-line-test.true c.loop-line.invariant.0 in
-    elim c.match-line.branch [
-      | in-Some w ↦
-          rw w.calls-is
-          (some_turn all (vec_items w.push_reserved-in-Some.new.self) (get_or xs i None) w.in-Some.call (drop (i + 1) xs) whole turn w.in-Some.is w.push_reserved-in-Some.ensures.items, omega (arith, c.loop-line.invariant.1, w.push_reserved-in-Some.ensures.len, w.push_reserved-in-Some.ensures.capacity))
-      | in_default w ↦ rw w.calls-is (none_turn all (get_or xs i None) (drop (i + 1) xs) whole turn w.in_default.is, omega (arith, c.loop-line.invariant.1))
-    ]
-
-pub push_reserved-requires-2 : goal.push_reserved-requires-2
-push_reserved-requires-2 c = omega (arith, c.loop-line.invariant.1, c.loop-line-test.false)
 
 pub returns : goal.returns
 returns c =
-    let xs = c.args.lines.now in
-    let all = at_end good xs c.loop-line.line-index (vec_items c.loop-line.calls) (Open ∷ good xs) refl c.loop-line-test.false c.loop-line.invariant.0 in
-    last_more (vec_items c.loop-line.calls) (vec_items c.push_reserved-2.new.self) Close (Open ∷ good xs) all c.push_reserved-2.ensures.items
+    let lines = YieldsList-from_copied (YieldsList-at c.copied.ensures.source (YieldsList-from_slice c.args.lines.now cc)) in
+    items_from_collect _ c.collect.ensures.ran
+    (YieldsList-from_chain
+    (YieldsList-at c.chain-2.ensures.first
+    (YieldsList-from_chain
+    (YieldsList-at c.chain.ensures.first (YieldsList-from_once (Some Open) c.once.ensures.item))
+    (YieldsList-at c.chain.ensures.second (YieldsList-from_flatten _ _ (λ x. x) option_to_list (λ x j is. YieldsList-from_once x (is.0)) (YieldsList-at c.flatten.ensures.source lines) c.flatten.ensures.front c.flatten.ensures.back c.flatten.ensures.done))
+    c.chain.ensures.first_done c.chain.ensures.second_done))
+    (YieldsList-at c.chain-2.ensures.second (YieldsList-from_once (Some Close) c.once-2.ensures.item))
+    c.chain-2.ensures.first_done c.chain-2.ensures.second_done)

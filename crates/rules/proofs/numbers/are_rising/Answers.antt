@@ -7,11 +7,11 @@ use Rattle.rules.proofs.numbers.are_rising.Goals as goal
 one_more : (low high : ℕ) (ks : List ℕ) (i : ℕ) → i < length ks → rising low high (drop i ks) ≡ (leb low (get_or ks i 0) && (ltb (get_or ks i 0) high && rising (suc (get_or ks i 0)) high (drop (i + 1) ks)))
 one_more low high ks i h = at_drop_more (rising low high) ks i 0 h
 
-pub returns-then-not-is_inside : goal.returns-then-not-is_inside
-returns-then-not-is_inside c = let h = one_more c.loop-k.next c.args.high c.args.keys.now c.loop-k.k-index (omega arith) in let t = c.if-not-is_inside.ensures in grind (arith, nat_tests)
+pub returns-then-not-contains : goal.returns-then-not-contains
+returns-then-not-contains c = let h = one_more c.loop-k.next c.args.span.high c.args.keys.now c.loop-k.k-index (omega arith) in let t = c.if-not-contains.ensures in grind (arith, nat_tests)
 
 pub loop-k-preserved : goal.loop-k-preserved
-loop-k-preserved c = let h = one_more c.loop-k.next c.args.high c.args.keys.now c.loop-k.k-index (omega arith) in let t = c.if-not-is_inside.ensures in rw add-one (grind (arith, nat_tests))
+loop-k-preserved c = let h = one_more c.loop-k.next c.args.span.high c.args.keys.now c.loop-k.k-index (omega arith) in let t = c.if-not-contains.ensures in rw add-one (grind (arith, nat_tests))
 
 pub returns : goal.returns
-returns c = let e = at_drop_all (rising c.loop-k.next c.args.high) c.args.keys.now c.loop-k.k-index (omega arith) in cc c.loop-k.invariant
+returns c = let e = at_drop_all (rising c.loop-k.next c.args.span.high) c.args.keys.now c.loop-k.k-index (omega arith) in cc c.loop-k.invariant

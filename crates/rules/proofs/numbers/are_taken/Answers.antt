@@ -1,17 +1,16 @@
-use Rattle.std.proofs.Common.{◌≡◌, ℕ, ◌+◌, ◌<◌, ◌&&◌, ltb, leb, List, length, get_or, drop, arith}
-use Rattle.std.proofs.lemmas.List.{at_drop_more, at_drop_all}
-use Rattle.std.proofs.lemmas.Bool.Decides.{nat_tests}
+use Rattle.std.proofs.Common.{◌≡◌, ℕ, ◌&&◌, ltb, leb, List, [], ◌∷◌, refl, ap, ◌∙◌, rules, tests}
+use Rattle.std.proofs.Math.Bool.{and_assoc}
+use Rattle.std.specs.List.{list_all}
+use Rattle.std.proofs.lemmas.Iterator.{YieldsList-from_slice}
+use Rattle.std.proofs.lemmas.Iterator.Search.{all_from_yields_List}
 use Rattle.rules.specs.Keys.{numbers_below}
 use Rattle.rules.proofs.numbers.are_taken.Goals as goal
 
-one_more : (limit : ℕ) (ns : List ℕ) (i : ℕ) → i < length ns → numbers_below limit (drop i ns) ≡ (leb 1 (get_or ns i 0) && (ltb (get_or ns i 0) limit && numbers_below limit (drop (i + 1) ns)))
-one_more limit ns i h = at_drop_more (numbers_below limit) ns i 0 h
-
-pub returns-then-not-is_taken : goal.returns-then-not-is_taken
-returns-then-not-is_taken c = let h = one_more c.args.next_free c.args.numbers.now c.loop-n.n-index (omega arith) in let t = c.if-not-is_taken.ensures in grind (arith, nat_tests)
-
-pub loop-n-preserved : goal.loop-n-preserved
-loop-n-preserved c = let h = one_more c.args.next_free c.args.numbers.now c.loop-n.n-index (omega arith) in let t = c.if-not-is_taken.ensures in grind (arith, nat_tests)
+-- both tests of a number are made at once
+taken : (limit : ℕ) (ns : List ℕ) → list_all (λ n. leb 1 n && ltb n limit) ns ≡ numbers_below limit ns
+taken limit [] = refl
+taken limit (n ∷ ns) = and_assoc (leb 1 n) (ltb n limit) (list_all (λ n. leb 1 n && ltb n limit) ns) ∙ ap (λ b. leb 1 n && (ltb n limit && b)) (taken limit ns)
 
 pub returns : goal.returns
-returns c = let e = at_drop_all (numbers_below c.args.next_free) c.args.numbers.now c.loop-n.n-index (omega arith) in cc c.loop-n.invariant
+returns c =
+    all_from_yields_List (λ n. leb 1 n && ltb n c.args.next_free) _ _ c.all.result c.all.ensures.ran (YieldsList-from_slice c.args.numbers.now cc) (λ x b q k. search (rules, tests)) ∙ taken c.args.next_free c.args.numbers.now

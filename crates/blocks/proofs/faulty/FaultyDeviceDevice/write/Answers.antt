@@ -1,16 +1,13 @@
-use Rattle.std.proofs.Common.{◌<◌, refl, arith, rules}
+use Rattle.std.proofs.Common.{◌≡◌, ◌<◌, length, arith}
+use Rattle.std.proofs.lemmas.Bool.Decides.{nat_tests}
 use Rattle.blocks.specs.Faulty.{faulty_size}
+use Rattle.blocks.specs.Media.{block_bytes}
 use Rattle.blocks.proofs.Written.{faulty_written}
 use Rattle.blocks.proofs.faulty.FaultyDeviceDevice.write.Goals as goal
 
-pub returns : goal.returns
-returns c =
+pub returns-clause-after : goal.returns-clause-after
+returns-clause-after c =
     let s = c.args.self.now in
-    let inside : c.args.block < faulty_size s.bytes.now s.states.now = omega arith in
-    record {
-      answer = search rules;
-      after = rw c.put_block.ensures (faulty_written s.bytes.now c.args.bytes.now s.states.now c.args.block s.allowance c.worn-self.result s.reads s.writes inside (omega arith));
-      lowered = c.worn-self.ensures.lowered;
-      exact = c.worn-self.ensures.value;
-      wear = refl;
-    }
+    let whole : length c.args.bytes.now ≡ block_bytes = grind (arith, nat_tests) in
+    let inside : c.args.block < faulty_size s.bytes.now s.states.now = grind (arith, nat_tests) in
+    rw c.put_block.ensures (faulty_written s.bytes.now c.args.bytes.now s.states.now c.args.block s.allowance c.worn-self.result s.reads s.writes inside whole)

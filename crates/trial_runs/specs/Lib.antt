@@ -1,0 +1,4 @@
+pub mod Orders
+pub mod Costs
+pub mod Digests
+pub mod Made
