@@ -1,3 +1,4 @@
+// The digests of blocks.
 use trial_runs::digest::{NO_DIGEST, mix};
 
 // The digest of bytes.
