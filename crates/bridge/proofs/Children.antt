@@ -25,7 +25,7 @@ module _ (a : List Node) (l : ℕ) (x : Node) (h : Children a l x.frame.low x.fr
       (λ j i. getD_counts a x.messages x.frame.children j i ∙ (λ q. pending ((at_place j i).from q) ((at_place j i).upto q) x.messages))))
 
   -- a child that stands in its block is read as the node of the tree
-  pub child_then : {B : Type 0} (C : Code) → RoundTrip C → (S : Type 0) (d : Image) (j : ℕ) → x.frame.level ≡ suc l → j < length x.frame.children
+  pub child_then : {B : Type 0} {F : Type 0} (C : Code F) → RoundTrip C → (S : Type 0) (d : Image) (j : ℕ) → x.frame.level ≡ suc l → j < length x.frame.children
       → FitsBlock a (child_block x j) → d.bytes (child_block x j) ≡ C.encode (node a (child_block x j))
       → child_block x j < d.size → (S → d.state (child_block x j) ≡ Sound) → (f : Fetched → Try B) (R : B → Type 0)
       → Ends S (f (record { image = image_read d; child = node a (child_block x j) })) R → Ends S (bind (fetch_child C d (length a) x j) f) R

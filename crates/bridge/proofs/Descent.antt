@@ -37,7 +37,7 @@ taking_child a t l b k i level_is =
     subst (λ c. Part a l c x.low x.high) at.1 (children_part a l x.low x.high x.low x.children x.pivots (place_among x.pivots k) children at.0 (omega arith))
 
 -- it is read as the node of the tree, where the image e, made of d by n reads, holds the tree a
-pub taking_child_then : {B : Type 0} (C : Code) → RoundTrip C → (a : List Node) → Tree a → AllSized a → ((b : ℕ) → b < length a → Plain (node a b)) → (d : Image) → length a ≤ d.size
+pub taking_child_then : {B : Type 0} {F : Type 0} (C : Code F) → RoundTrip C → (a : List Node) → Tree a → AllSized a → ((b : ℕ) → b < length a → Plain (node a b)) → (d : Image) → length a ≤ d.size
     → length a ≤ most_blocks → (l b k : ℕ) → l ≤ most_levels → b < length a → (node a b).frame.level ≡ suc l → (node a b).frame.high ≤ 2 ^ 32 → (e : Image) → Stored C e a → (n : ℕ) → Work d e n 0 0
     → (f : Fetched → Try B) (R : B → Type 0) → Ends (AllSound d) (f (record { image = image_read e; child = node a (child (node a b).frame k) })) R
     → Ends (AllSound d) (bind (fetch_child C e (length a) (node a b) (place_among (node a b).frame.pivots k)) f) R

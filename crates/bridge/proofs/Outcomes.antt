@@ -60,15 +60,15 @@ module _ (S : Type 0) (d : Image) (n : ℕ) (inside : n < d.size) (sound : S →
       bind_ends S (save d n b) f (λ e. image_written d n b ≡ e) R (save_ends b (λ e. image_written d n b ≡ e) refl) (λ e is. subst (λ e. Ends S (f e) R) is h)
 
   -- a block that is not refused where a node is expected
-  fetch_ends : (C : Code) (next l low high : ℕ) (x : Node) (Q : Fetched → Type 0) → C.fault l low high next (d.bytes n) ≡ None → decoded C l low high (d.bytes n) ≡ x
+  fetch_ends : {F : Type 0} (C : Code F) (next l low high : ℕ) (x : Node) (Q : Fetched → Type 0) → C.fault l low high next (d.bytes n) ≡ None → decoded C l low high (d.bytes n) ≡ x
       → Q (record { image = image_read d; child = x }) → Ends S (fetch C d next n l low high) Q
   fetch_ends C next l low high x Q fine same q =
-      bind_ends S (load d n) (λ e. unless_bad (C.fault l low high next (d.bytes n)) e n (decoded C l low high (d.bytes n))) (λ e. image_read d ≡ e) Q (load_ends (λ e. image_read d ≡ e) refl)
-      (λ e is. subst (λ o. Ends S (unless_bad o e n (decoded C l low high (d.bytes n))) Q) (sym fine)
+      bind_ends S (load d n) (λ e. unless_bad C.rule (C.fault l low high next (d.bytes n)) e n (decoded C l low high (d.bytes n))) (λ e. image_read d ≡ e) Q (load_ends (λ e. image_read d ≡ e) refl)
+      (λ e is. subst (λ o. Ends S (unless_bad C.rule o e n (decoded C l low high (d.bytes n))) Q) (sym fine)
       (subst Q (λ i. record { image = is i; child = sym same i }) q))
 
   -- such a read, and what follows it
-  pub fetch_then : {B : Type 0} (C : Code) (next l low high : ℕ) (x : Node) (f : Fetched → Try B) (R : B → Type 0)
+  pub fetch_then : {B : Type 0} {F : Type 0} (C : Code F) (next l low high : ℕ) (x : Node) (f : Fetched → Try B) (R : B → Type 0)
       → C.fault l low high next (d.bytes n) ≡ None → decoded C l low high (d.bytes n) ≡ x
       → Ends S (f (record { image = image_read d; child = x })) R → Ends S (bind (fetch C d next n l low high) f) R
   fetch_then C next l low high x f R fine same h =

@@ -54,7 +54,7 @@ same_entries low high (x ∷ xs) (y ∷ ys) w v e =
     (λ i. record { key = key i; value = value i } ∷ tail i)
 
 -- ---- the way down
-module _ (C : Code) (T : RoundTrip C) (a : List Node) (t : Tree a) (sized : AllSized a) (plain : (b : ℕ) → b < length a → Plain (node a b)) (d : Image)
+module _ {F : Type 0} (C : Code F) (T : RoundTrip C) (a : List Node) (t : Tree a) (sized : AllSized a) (plain : (b : ℕ) → b < length a → Plain (node a b)) (d : Image)
     (inside : length a ≤ d.size) (numbers_fit : length a ≤ most_blocks) (first last : ℕ) where
   abbrev K : Algebra
   K = C.algebra
@@ -146,7 +146,7 @@ module _ (C : Code) (T : RoundTrip C) (a : List Node) (t : Tree a) (sized : AllS
         work = same_work d s.image _ _ 0 0 0 reads refl y.work;
       })
 
-pub page_bridge : PageBridge
+pub page_bridge : {F : Type 0} → PageBridge F
 page_bridge C T h ks d st on first last le lt =
     let K = C.algebra in
     let a = grown K h in

@@ -40,7 +40,7 @@ verdict_ends K (Some (Put v)) met d e n f g k h = says_now d e n _ k
 verdict_ends K (Some Remove) met d e n f g k h = says_now d e n _ k
 verdict_ends K (Some (Add x)) met d e n f g k h = h _
 
-module _ (C : Code) (T : RoundTrip C) (a : List Node) (t : Tree a) (sized : AllSized a) (plain : (b : ℕ) → b < length a → Plain (node a b)) (d : Image)
+module _ {F : Type 0} (C : Code F) (T : RoundTrip C) (a : List Node) (t : Tree a) (sized : AllSized a) (plain : (b : ℕ) → b < length a → Plain (node a b)) (d : Image)
     (inside : length a ≤ d.size) (numbers_fit : length a ≤ most_blocks) (k : ℕ) where
   abbrev K : Algebra
   K = C.algebra
@@ -62,10 +62,10 @@ module _ (C : Code) (T : RoundTrip C) (a : List Node) (t : Tree a) (sized : AllS
       })))
 
 -- from the root on
-found : (C : Code) (d : Image) (a : List Node) (k : ℕ) (s : Answered) → Says d 0 (query C.algebra a k) s → Found C d a k s
+found : {F : Type 0} (C : Code F) (d : Image) (a : List Node) (k : ℕ) (s : Answered) → Says d 0 (query C.algebra a k) s → Found C d a k s
 found C d a k s y = record { value_is = y.value_is; reads_are = omega (arith, y.reads_are); work = same_work d s.image _ _ 0 0 0 (omega arith) refl y.work }
 
-pub query_bridge : QueryBridge
+pub query_bridge : {F : Type 0} → QueryBridge F
 query_bridge C T h ks d st on k =
     let K = C.algebra in
     let a = grown K h in

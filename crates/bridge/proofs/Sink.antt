@@ -22,7 +22,7 @@ use Rattle.bridge.proofs.Step.{Holding, length_step, step_ends}
 use Rattle.bridge.proofs.Working.{same_work, write_more, wrote}
 
 -- steps that led to the tree a, with the root x: u tree writes, and from the image d on r reads and w writes, to blocks below n
-pub record Sank (C : Code) (d : Image) (u r w n : ℕ) (a : List Node) (x : Node) (s : Sunk) : Type 0 where
+pub record Sank {F : Type 0} (C : Code F) (d : Image) (u r w n : ℕ) (a : List Node) (x : Node) (s : Sunk) : Type 0 where
   pub next_is : s.next ≡ length a
   pub writes_are : s.writes ≡ u % 2 ^ 64
   pub root_is : node a 0 ≡ x
@@ -30,7 +30,7 @@ pub record Sank (C : Code) (d : Image) (u r w n : ℕ) (a : List Node) (x : Node
   pub work : Work d s.image r w n
 
 -- the same from the root on, in a tree of height l
-pub record Came (C : Code) (d : Image) (u r w n l : ℕ) (a : List Node) (s : Settled) : Type 0 where
+pub record Came {F : Type 0} (C : Code F) (d : Image) (u r w n l : ℕ) (a : List Node) (s : Settled) : Type 0 where
   pub height_is : height a ≡ l
   pub next_is : s.next ≡ length a
   pub writes_are : s.writes ≡ u % 2 ^ 64
@@ -54,13 +54,13 @@ added true u own x = omega arith
 added false u own x = omega arith
 
 -- ---- what goes on after a step from the block p, and from the root
-abbrev onward : Code → ℕ → ℕ → Step → Try Sunk
+abbrev onward : {F : Type 0} → Code F → ℕ → ℕ → Step → Try Sunk
 onward C l p s = bind (save s.image p (C.encode s.parent)) (λ e. sink C l e s.next ((s.writes + 1) % 2 ^ 64) s.block s.child)
 
 abbrev with_root : Step → Sunk → Try Settled
 with_root s z = done (record { image = z.image; next = z.next; writes = z.writes; root = s.parent })
 
-abbrev below_root : Code → ℕ → Step → Try Settled
+abbrev below_root : {F : Type 0} → Code F → ℕ → Step → Try Settled
 below_root C l s = bind (sink C l s.image s.next s.writes s.block s.child) (with_root s)
 
 -- ---- the root while steps are made below it
@@ -106,7 +106,7 @@ module _ (K : Algebra) (h : List (Entry Message)) (l : ℕ) (a : List Node) (p :
       go false = refl
 
 -- ---- all steps. All is inside the first n blocks of the image d that work began with
-module _ (C : Code) (T : RoundTrip C) (d : Image) (n : ℕ) (inside : n ≤ d.size) (numbers_fit : n ≤ most_blocks) (h : List (Entry Message)) where
+module _ {F : Type 0} (C : Code F) (T : RoundTrip C) (d : Image) (n : ℕ) (inside : n ≤ d.size) (numbers_fit : n ≤ most_blocks) (h : List (Entry Message)) where
   abbrev K : Algebra
   K = C.algebra
 

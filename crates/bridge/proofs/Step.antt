@@ -30,12 +30,12 @@ use Rattle.bridge.proofs.Words.{lower_half_fits, upper_half_fits, without_batch_
 use Rattle.bridge.proofs.Working.{read_more, write_more, wrote}
 
 -- all nodes but the root and those of p and q stand in their blocks
-pub record Holding (C : Code) (d : Image) (a : List Node) (p q : ℕ) : Type 0 where
+pub record Holding {F : Type 0} (C : Code F) (d : Image) (a : List Node) (p q : ℕ) : Type 0 where
   pub in_blocks : (b : ℕ) → b < length a → 0 < b → b ≢ p → b ≢ q → d.bytes b ≡ C.encode (node a b)
   pub words_fit : (b : ℕ) → b < length a → WordsFit (node a b)
 
 -- a step from p to c that led to the tree a: u tree writes, and from the image d on r reads and w writes, to blocks below n
-pub record After (C : Code) (d : Image) (u r w n : ℕ) (a : List Node) (p c : ℕ) (s : Step) : Type 0 where
+pub record After {F : Type 0} (C : Code F) (d : Image) (u r w n : ℕ) (a : List Node) (p c : ℕ) (s : Step) : Type 0 where
   pub next_is : s.next ≡ length a
   pub writes_are : s.writes ≡ u
   pub parent_is : s.parent ≡ node a p
@@ -46,7 +46,7 @@ pub record After (C : Code) (d : Image) (u r w n : ℕ) (a : List Node) (p c : �
   pub work : Work d s.image r w n
 
 -- ---- the move
-module _ (C : Code) (a : List Node) (t : Tree a) (p j c l : ℕ) (m : CanMove a p j c) (level_is : (node a p).frame.level ≡ suc l) where
+module _ {F : Type 0} (C : Code F) (a : List Node) (t : Tree a) (p j c l : ℕ) (m : CanMove a p j c) (level_is : (node a p).frame.level ≡ suc l) where
   abbrev K : Algebra
   K = C.algebra
 
@@ -92,7 +92,7 @@ length_step K a p = simp length-set (go (is_full (node a (busiest_child a p))))
     go false = omega arith
 
 -- the child at place j of x is read, split if it is full, and given a batch
-abbrev step_at : Code → Image → ℕ → ℕ → Node → ℕ → Try Step
+abbrev step_at : {F : Type 0} → Code F → Image → ℕ → ℕ → Node → ℕ → Try Step
 step_at C d next u x j = bind (fetch_child C d next x j) (λ g. bind (split_if_full C g.image next u x j g.child (child_block x j)) (λ s. done (carried C s)))
 
 -- a step whose split left the other half in the image i
@@ -100,7 +100,7 @@ abbrev split_step : ℕ → ℕ → Node → Node → ℕ → Image → Step
 split_step next u parent child block i = record { image = i; next = next + 1; writes = (u + 1) % 2 ^ 64; parent = parent; child = child; block = block }
 
 -- ---- a step from p, of level l + 1, in the tree a, which the image e holds but for p. All is inside the first n blocks of the image d that work began with
-module _ (C : Code) (T : RoundTrip C) (d : Image) (n : ℕ) (inside : n ≤ d.size) (numbers_fit : n ≤ most_blocks) (h : List (Entry Message)) (l : ℕ) (level_fits : l ≤ most_levels)
+module _ {F : Type 0} (C : Code F) (T : RoundTrip C) (d : Image) (n : ℕ) (inside : n ≤ d.size) (numbers_fit : n ≤ most_blocks) (h : List (Entry Message)) (l : ℕ) (level_fits : l ≤ most_levels)
     (a : List Node) (p : ℕ) (g : Going C.algebra h (suc l) a p) (big : 256 < length (node a p).messages) (span_fits : (node a p).frame.high ≤ 2 ^ 32)
     (room : length (after_step C.algebra a p) ≤ n) (e : Image) (u r w : ℕ) (st : Holding C e a p p) (k : Work d e r w n) where
   -- the child that the step goes to, and its place

@@ -29,7 +29,7 @@ use Rattle.bridge.proofs.Words.{lower_inner_fits, upper_inner_fits, with_message
 use Rattle.bridge.proofs.Working.{no_work, same_work, write_more, wrote}
 
 -- ---- the root is cut
-module _ (C : Code) (a : List Node) (t : Tree a) (d : Image) (n : ℕ) (inside : n ≤ d.size) (st : Stored C d a) (u : ℕ) where
+module _ {F : Type 0} (C : Code F) (a : List Node) (t : Tree a) (d : Image) (n : ℕ) (inside : n ≤ d.size) (st : Stored C d a) (u : ℕ) where
   module _ (e8 : length (node a 0).frame.children ≡ 8) where
     abbrev Y : Node
     Y = lower_inner 3 (node a 0)
@@ -101,7 +101,7 @@ module _ (C : Code) (a : List Node) (t : Tree a) (d : Image) (n : ℕ) (inside :
       go false f room = record { height_is = refl; next_is = refl; writes_are = omega arith; root_is = refl; stored = st; work = no_work d n }
 
 -- ---- a message joins the root
-module _ (C : Code) (a : List Node) (t : Tree a) (k : ℕ) (m : Message) (key_fits : k < 2 ^ 32) (word_fits : WordFits m) (e : Image) (st : Stored C e a) where
+module _ {F : Type 0} (C : Code F) (a : List Node) (t : Tree a) (k : ℕ) (m : Message) (key_fits : k < 2 ^ 32) (word_fits : WordFits m) (e : Image) (st : Stored C e a) where
   joined_stored : Stored C e (joined C.algebra k m a)
   joined_stored =
       let len = ct.join_len C.algebra a t k m key_fits in
@@ -115,7 +115,7 @@ module _ (C : Code) (a : List Node) (t : Tree a) (k : ℕ) (m : Message) (key_fi
       }
 
 -- ---- the whole update
-module _ (C : Code) (T : RoundTrip C) (h : List (Entry Message)) (ks : Keys h) (d : Image) (u : ℕ) (st : Stored C d (grown C.algebra h)) (on : OnDevice d (grown C.algebra h)) (small : u < 2 ^ 64)
+module _ {F : Type 0} (C : Code F) (T : RoundTrip C) (h : List (Entry Message)) (ks : Keys h) (d : Image) (u : ℕ) (st : Stored C d (grown C.algebra h)) (on : OnDevice d (grown C.algebra h)) (small : u < 2 ^ 64)
     (room : Room d (grown C.algebra h)) (k : ℕ) (m : Message) (key_fits : k < 2 ^ 32) (word_fits : WordFits m) where
   abbrev K : Algebra
   K = C.algebra
@@ -179,14 +179,14 @@ fresh_fits zero i = record { messages_fit = tt; records_fit = tt }
 fresh_fits (suc zero) i = record { messages_fit = tt; records_fit = tt }
 fresh_fits (suc (suc b)) i = absurd (omega arith)
 
-pub fresh_bridge : FreshBridge
+pub fresh_bridge : {F : Type 0} → FreshBridge F
 fresh_bridge C d e = record {
   in_blocks = λ b i pos. let one : b ≡ 1 = omega arith in ap d.bytes one ∙ e ∙ ap (λ x. C.encode (node fresh x)) (sym one);
   words_fit = fresh_fits;
 }
 
 -- ---- the laws
-pub update_bridge : UpdateBridge
+pub update_bridge : {F : Type 0} → UpdateBridge F
 update_bridge C T h ks d u st on small room k m key_fits word_fits =
     let a = grown C.algebra h in
     let ends = update_ends C T h ks d u st on small room k m key_fits word_fits in

@@ -46,7 +46,7 @@ write_more d e r w n k b bs pos below =
     }
 
 -- the bytes of a block after a node was written to one
-pub wrote : (C : Code) (d : Image) (n b : ℕ) (x y : Node) → (b ≡ n → x ≡ y) → (b ≢ n → d.bytes b ≡ C.encode y) → (image_written d n (C.encode x)).bytes b ≡ C.encode y
+pub wrote : {F : Type 0} (C : Code F) (d : Image) (n b : ℕ) (x y : Node) → (b ≡ n → x ≡ y) → (b ≢ n → d.bytes b ≡ C.encode y) → (image_written d n (C.encode x)).bytes b ≡ C.encode y
 wrote C d n b x y here else = ⊎_elim
     (λ (z : b ≡ n). cond-true (eqb b n) (C.encode x) (d.bytes b) (eq-eqb b n z) ∙ ap C.encode (here z))
     (λ (z : b ≢ n). cond-false (eqb b n) (C.encode x) (d.bytes b) (ne_eqb b n z) ∙ else z)

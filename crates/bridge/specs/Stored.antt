@@ -35,13 +35,13 @@ pub record FitsBlock (a : List Node) (b : ℕ) : Type 0 where
   pub numbers_fit : next_free a ≤ most_blocks
 
 -- such a node is not refused where it is expected, and is read back as it was written
-pub record RoundTrip (C : Code) : Type 0 where
+pub record RoundTrip {F : Type 0} (C : Code F) : Type 0 where
   pub not_refused : (a : List Node) (b : ℕ) → FitsBlock a b
       → C.fault (node a b).frame.level (node a b).frame.low (node a b).frame.high (next_free a) (C.encode (node a b)) ≡ None
   pub read_back : (a : List Node) (b : ℕ) → FitsBlock a b
       → decoded C (node a b).frame.level (node a b).frame.low (node a b).frame.high (C.encode (node a b)) ≡ node a b
 
 -- each node of a tree but the root stands in its block, and all words fit
-pub record Stored (C : Code) (d : Image) (a : List Node) : Type 0 where
+pub record Stored {F : Type 0} (C : Code F) (d : Image) (a : List Node) : Type 0 where
   pub in_blocks : (b : ℕ) → b < next_free a → 0 < b → d.bytes b ≡ C.encode (node a b)
   pub words_fit : (b : ℕ) → b < next_free a → WordsFit (node a b)

@@ -1,8 +1,22 @@
--- What a reader of a line still has, and what it hands out.
+-- What the readers still have, and what they hand out.
 use Rattle.std.specs.Prelude.{◌≡◌, ℕ, List, [], ◌∷◌, length, take, drop, Option, MatchOption}
 use Rattle.fields.specs.declared.token.Token.{Token}
-use Rattle.fields.specs.Parts.{fields_from}
+use Rattle.fields.specs.Parts.{lines_of, fields_from}
 use Rattle.fields.specs.Told.{told, told_of, text_of, place_of}
+
+-- an input, and the place where its next line starts
+pub record InputCursor : Type 0 where
+  pub input : List ℕ
+  pub place : ℕ
+
+-- the lines still to be handed out
+abbrev pub lines_left : InputCursor → List (List ℕ)
+lines_left s = lines_of (drop s.place s.input)
+
+-- the text t is the first line that s has, and s' has the others
+pub record TextHanded (s : InputCursor) (t : List ℕ) (s' : InputCursor) : Type 0 where
+  pub first : lines_left s ≡ t ∷ lines_left s'
+  pub same : s'.input ≡ s.input
 
 -- a line, and the place where its next field starts
 pub record Cursor : Type 0 where

@@ -1,13 +1,14 @@
 // Hands out the lines of an input.
-ghost use Rattle.std.specs.Prelude.{◌≡◌};
-ghost use Rattle.std.specs.Iterator.{YieldsFirstRef, item_count};
+ghost use Rattle.std.specs.Prelude.{◌≡◌, [], MatchOption};
+ghost use Rattle.std.specs.Iterator.{item_count};
 ghost use Rattle.fields.specs.Parts.{lines_of};
+ghost use Rattle.fields.specs.Handed.{lines_left, TextHanded};
 ghost use Rattle.fields.specs.Laws.{Lined};
 
 use crate::scan::before;
 use std::marker::Model;
 
-// An input, and the place where its next line starts. It is seen as the list of the lines that are left.
+// An input, and the place where its next line starts.
 #[derive(Drop)]
 pub struct Lines<'a> {
     input: &'a [u8],
@@ -15,18 +16,17 @@ pub struct Lines<'a> {
 }
 
 impl<'a> Model for Lines<'a> {
-    ghost use Rattle.std.specs.Prelude.{ℕ, List, drop};
-    ghost use Rattle.fields.specs.Parts.{lines_of};
+    ghost use Rattle.fields.specs.Handed.{InputCursor};
 
-    ghost Value = { List (List ℕ) };
+    ghost Value = { InputCursor };
 
-    ghost view = { λ s. lines_of (drop s.place s.input.now) };
+    ghost view = { λ s. record { input = s.input.now; place = s.place } };
 }
 
 impl<'a> Lines<'a> {
     pub fn new(input: &'a [u8]) -> Lines<'a>
-        ensures left { result ≡ lines_of input.now }
-        ensures lined { Lined input.now result }
+        ensures left { lines_left result ≡ lines_of input.now }
+        ensures lined { Lined input.now (lines_left result) }
     {
         Lines { input, place: 0 }
     }
@@ -36,9 +36,9 @@ impl<'a> Lines<'a> {
 impl<'a> Iterator for Lines<'a> {
     type Item = &'a [u8];
 
-    ghost next_gives = { YieldsFirstRef (λ lines. lines) };
+    ghost next_gives = { λ s line s'. MatchOption line ((lines_left s ≡ []) × (s' ≡ s)) (λ t. TextHanded s t.now s') };
 
-    ghost remaining = { item_count (λ lines. lines) };
+    ghost remaining = { item_count lines_left };
 
     fn next(&mut self) -> Option<&'a [u8]> {
         if self.place >= self.input.len() {

@@ -1,4 +1,3 @@
 pub mod Largest
 pub mod Crowded
-pub mod Slices
 mod Front

@@ -33,11 +33,12 @@ messages_at level bs = cond (level == 0) [] (messages_of (header_of bs) bs)
 unfoldable pub records_at : ℕ → List ℕ → List (Entry ℕ)
 records_at level bs = cond (level == 0) (records_of (header_of bs) bs) []
 
-abbrev pub code_of : Algebra → Code
+abbrev pub code_of : Algebra → Code Rule
 code_of K = record {
   algebra = K;
   encode = encode_of K;
   fault = fault_of K;
+  rule = λ rule. rule;
   pivots = pivots_at;
   children = children_at;
   messages = messages_at;

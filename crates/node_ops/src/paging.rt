@@ -44,15 +44,16 @@ fn between<V>(entries: &[Entry<V>], span: Span) -> &[Entry<V>]
     &entries[places(entries, span)]
 }
 
-// Keeps the entries of a span.
+// Keeps the entries of a span. They alone are moved: `drain` would turn round all that stands before them too.
 fn keep_between<V: Copy>(entries: &mut Vec<Entry<V>>, span: Span)
     ensures items { entries.new.items ≡ slice span.low span.high entries.old.items }
     ensures few { vec_len entries.new ≤ vec_len entries.old }
     ensures capacity { vec_capacity entries.new ≡ vec_capacity entries.old }
 {
     let kept = places(entries, span);
-    entries.truncate(kept.end);
-    entries.drain(..kept.start);
+    let count = kept.end - kept.start;
+    entries.copy_within(kept, 0);
+    entries.truncate(count);
 }
 
 // Gathers an inner node's messages of a span, older than those gathered above it, by way of `spare`.

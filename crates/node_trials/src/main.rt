@@ -2,7 +2,9 @@
 #![tactic(auto)]
 
 ghost use Rattle.std.specs.Prelude.{◌≡◌};
+ghost use Rattle.messages.specs.Outcomes.{ok_unless};
 ghost use Rattle.node_trials.specs.Trials.{changed};
+ghost use Rattle.nodes.specs.Checks.{node_fault, root_fault};
 
 use messages::span::Span;
 use nodes::node::Node;
@@ -27,6 +29,20 @@ fn change(block: &mut [u8; BLOCK_SIZE], changes: &[Change])
             block[*place] = *byte;
         }
     }
+}
+
+// The rule that a node's block breaks first, if any.
+fn rule_of_node(node: &mut Node, place: &Place, block: &[u8; BLOCK_SIZE]) -> Result<(), Rule>
+    ensures { result ≡ ok_unless (node_fault place.now block.now) tt }
+{
+    node.read(place, block)
+}
+
+// The rule that block 0 breaks first, if any.
+fn rule_of_root(root: &mut Root, block: &[u8; BLOCK_SIZE]) -> Result<(), Rule>
+    ensures { result ≡ ok_unless (root_fault 64 block.now) tt }
+{
+    root.read(SIZE, block).and(Ok(()))
 }
 
 // Prints the bytes that were changed, with the rule that the block breaks.
@@ -79,13 +95,13 @@ fn main(rt: HostRuntime) -> io::Result<()> {
     };
     let inner = Place { level: 1, ..leaf };
     let leaves = try_blocks(&rt, "leaf", &LEAF, &LEAF_TRIALS, |block| {
-        node.read(&leaf, block)
+        rule_of_node(&mut node, &leaf, block)
     })?;
     let inners = try_blocks(&rt, "inner node", &INNER, &INNER_TRIALS, |block| {
-        node.read(&inner, block)
+        rule_of_node(&mut node, &inner, block)
     })?;
     let roots = try_blocks(&rt, "root", &ROOT, &ROOT_TRIALS, |block| {
-        root.read(SIZE, block).and(Ok(()))
+        rule_of_root(&mut root, block)
     })?;
     let all = LEAF_TRIALS.len() + INNER_TRIALS.len() + ROOT_TRIALS.len();
     let expected = leaves.saturating_add(inners).saturating_add(roots);

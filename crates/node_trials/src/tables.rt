@@ -2,7 +2,7 @@
 use rules::rule::Rule;
 
 // A place in a block, and the byte that it is changed to.
-#[derive(Clone, Copy)]
+#[derive(Clone, Copy, PartialEq, Eq)]
 pub struct Change(pub usize, pub u8);
 
 // What is changed in a good block, and what reading it then gives.

@@ -71,7 +71,7 @@ module _ (p : Place) (x : Node) (good : FitsPlace p x) (h : Header) (front : Lis
       let at : between 32 4096 bs ≡ t = ap (λ l. take 4064 (drop 32 (front ++ l))) (rw zero_level refl) ∙ ap (take 4064) (drop_at front t 32 before) ∙ take_all 4064 t (omega arith) in
       let n : h.count ≡ length xs = count ∙ rw zero_level refl in
       let values : records_of h bs ≡ xs = (λ i. values_of record_coding (n i) (at i)) ∙ values_back record_coding xs (replicate (4064 - length (rows_of record_coding xs)) 0) good.records_fit in
-      let order : rows_in_order record_coding (λ row. true) p.span.low p.span.high h.count (between 32 4096 bs) ≡ true
+      let order : rows_in_order record_coding (λ e. e.key) (λ row. true) p.span.low p.span.high h.count (between 32 4096 bs) ≡ true
       = and_from _ _ (ap (λ l. rising p.span.low p.span.high (map (λ e. e.key) l)) values ∙ good.records_rise) (any_row 12 h.count (between 32 4096 bs)) in
       let ends : all_zero (drop (12 * h.count) (between 32 4096 bs)) ≡ true = (λ i. all_zero (drop (12 * n i) (at i))) ∙ table_end record_coding 4064 xs in
       let exact : (unused_zero h && rows_exact record_coding (λ row. true) h.count (between 32 4096 bs)) ≡ true = and_from _ _ unused (and_from _ _ (any_row 12 h.count (between 32 4096 bs)) ends) in
@@ -120,7 +120,7 @@ module _ (p : Place) (x : Node) (good : FitsPlace p x) (h : Header) (front : Lis
       = (λ i. all_rows exact_row 13 (nm i) (at3 i)) ∙ all_rows_pass message_entry_coding exact_row (λ e more f. exact_encoded e.key e.value more) ms (replicate (4004 - length (rows_of message_entry_coding ms)) 0) good.messages_fit in
       let rise : rising p.span.low p.span.high (pivots_of h bs) ≡ true = ap (rising p.span.low p.span.high) pivots ∙ good.pivots_rise in
       let range : numbers_below p.next_free (children_of h bs) ≡ true = ap (numbers_below p.next_free) child_numbers ∙ good.children_below in
-      let order : rows_in_order message_entry_coding known_row p.span.low p.span.high h.count (between 92 4096 bs) ≡ true
+      let order : rows_in_order message_entry_coding (λ e. e.key) known_row p.span.low p.span.high h.count (between 92 4096 bs) ≡ true
       = and_from _ _ (ap (λ l. rising p.span.low p.span.high (map (λ e. e.key) l)) messages ∙ good.messages_rise) known_rows in
       let end1 : all_zero (drop (4 * (h.children - 1)) (between 32 60 bs)) ≡ true = (λ i. all_zero (drop (4 * np i) (at1 i))) ∙ table_end (number 4) 28 ps in
       let end2 : all_zero (drop (4 * h.children) (between 60 92 bs)) ≡ true = (λ i. all_zero (drop (4 * children i) (at2 i))) ∙ table_end (number 4) 32 cs in

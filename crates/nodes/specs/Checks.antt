@@ -15,7 +15,7 @@ use Rattle.rules.specs.Rules.{first_broken}
 -- the rules on the table of a leaf
 abbrev pub leaf_rules : Place → Header → List ℕ → List (Bool × Rule)
 leaf_rules p h bs =
-    (rows_in_order record_coding (λ row. true) p.span.low p.span.high h.count (between 32 4096 bs), Keys)
+    (rows_in_order record_coding (λ e. e.key) (λ row. true) p.span.low p.span.high h.count (between 32 4096 bs), Keys)
     ∷ (unused_zero h && rows_exact record_coding (λ row. true) h.count (between 32 4096 bs), Unused)
     ∷ []
 
@@ -24,7 +24,7 @@ abbrev pub inner_rules : Place → Header → List ℕ → List (Bool × Rule)
 inner_rules p h bs =
     (rising p.span.low p.span.high (pivots_of h bs), Pivots)
     ∷ (numbers_below p.next_free (children_of h bs), ChildNumbers)
-    ∷ (rows_in_order message_entry_coding known_row p.span.low p.span.high h.count (between 92 4096 bs), Keys)
+    ∷ (rows_in_order message_entry_coding (λ e. e.key) known_row p.span.low p.span.high h.count (between 92 4096 bs), Keys)
     ∷ (
       unused_zero h
           && (all_zero (drop (4 * (h.children - 1)) (between 32 60 bs))

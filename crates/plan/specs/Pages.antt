@@ -37,7 +37,7 @@ leaf_paged K d x first last newer n = record {
 }
 
 -- a page from the node x of level l down to the leaf whose span holds first, with the messages gathered and the blocks read so far
-abbrev pub page_from : Code → ℕ → Image → ℕ → Node → ℕ → ℕ → List (Entry Message) → ℕ → Try Paged
+abbrev pub page_from : {F : Type 0} → Code F → ℕ → Image → ℕ → Node → ℕ → ℕ → List (Entry Message) → ℕ → Try Paged
 page_from C zero d next x first last newer n = done (leaf_paged C.algebra d x first last newer n)
 page_from C (suc l) d next x first last newer n =
     bind (fetch_child C d next x (place_among x.frame.pivots first)) (λ g.

@@ -35,7 +35,7 @@ by_verdict (Settled o) d n go = done (record { image = d; value = o; reads = n }
 by_verdict (Down met) d n go = go met
 
 -- a query from the node x of level l on, with the deltas met and the blocks read so far
-abbrev pub seek : Code → ℕ → Image → ℕ → Node → ℕ → Option ℕ → ℕ → Try Answered
+abbrev pub seek : {F : Type 0} → Code F → ℕ → Image → ℕ → Node → ℕ → Option ℕ → ℕ → Try Answered
 seek C zero d next x k met n = done (record { image = d; value = acted C.algebra met (find k x.records); reads = n })
 seek C (suc l) d next x k met n =
     by_verdict (judged C.algebra (find k x.messages) met) d n (λ met.

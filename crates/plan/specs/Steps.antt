@@ -36,16 +36,16 @@ pub record Fetched : Type 0 where
   pub image : Image
   pub child : Node
 
-abbrev pub unless_bad : Option Rule → Image → ℕ → Node → Try Fetched
-unless_bad None d n x = done (record { image = d; child = x })
-unless_bad (Some rule) d n x = stop d (node_report n rule)
+abbrev pub unless_bad : {F : Type 0} → (F → Rule) → Option F → Image → ℕ → Node → Try Fetched
+unless_bad rule None d n x = done (record { image = d; child = x })
+unless_bad rule (Some fault) d n x = stop d (node_report n (rule fault))
 
 -- block n is read where a node of level l with a span is expected
-abbrev pub fetch : Code → Image → ℕ → ℕ → ℕ → ℕ → ℕ → Try Fetched
-fetch C d next n l low high = bind (load d n) (λ e. unless_bad (C.fault l low high next (d.bytes n)) e n (decoded C l low high (d.bytes n)))
+abbrev pub fetch : {F : Type 0} → Code F → Image → ℕ → ℕ → ℕ → ℕ → ℕ → Try Fetched
+fetch C d next n l low high = bind (load d n) (λ e. unless_bad C.rule (C.fault l low high next (d.bytes n)) e n (decoded C l low high (d.bytes n)))
 
 -- the child at place j of x is read
-abbrev pub fetch_child : Code → Image → ℕ → Node → ℕ → Try Fetched
+abbrev pub fetch_child : {F : Type 0} → Code F → Image → ℕ → Node → ℕ → Try Fetched
 fetch_child C d next x j = fetch C d next (child_block x j) (x.frame.level - 1) (child_low x j) (child_high x j)
 
 -- ---- the split
@@ -68,7 +68,7 @@ abbrev pub parted_parent : Node → ℕ → Node → ℕ → Node
 parted_parent p j c n = with_new_child j (split_key c.frame.level c) n p
 
 -- a full child is split; the half with more pending goes on, the lower at a tie, and the other is written
-abbrev pub split_if_full : Code → Image → ℕ → ℕ → Node → ℕ → Node → ℕ → Try Step
+abbrev pub split_if_full : {F : Type 0} → Code F → Image → ℕ → ℕ → Node → ℕ → Node → ℕ → Try Step
 split_if_full C d next w p j c n =
     cond (is_full c)
     (cond (upper_has_more p c)
@@ -80,7 +80,7 @@ split_if_full C d next w p j c n =
 
 -- ---- the move
 -- the batch of smallest keys that is pending for the child moves down to it
-abbrev pub carried : Code → Step → Step
+abbrev pub carried : {F : Type 0} → Code F → Step → Step
 carried C s = record {
   image = s.image;
   next = s.next;
@@ -91,7 +91,7 @@ carried C s = record {
 }
 
 -- ---- a step from the node p
-abbrev pub step : Code → Image → ℕ → ℕ → Node → Try Step
+abbrev pub step : {F : Type 0} → Code F → Image → ℕ → ℕ → Node → Try Step
 step C d next w p =
     bind (fetch_child C d next p (busiest p)) (λ g.
     bind (split_if_full C g.image next w p (busiest p) g.child (child_block p (busiest p))) (λ s. done (carried C s)))
@@ -103,11 +103,11 @@ pub record Sunk : Type 0 where
   pub writes : ℕ
 
 -- the last current node is written
-abbrev pub finish : Code → Image → ℕ → ℕ → ℕ → Node → Try Sunk
+abbrev pub finish : {F : Type 0} → Code F → Image → ℕ → ℕ → ℕ → Node → Try Sunk
 finish C d next w n x = bind (save d n (C.encode x)) (λ e. done (record { image = e; next = next; writes = (w + 1) % 2 ^ 64 }))
 
 -- steps while the current node, of level l in block n, has more than 256 messages; each is written once its step is made
-abbrev pub sink : Code → ℕ → Image → ℕ → ℕ → ℕ → Node → Try Sunk
+abbrev pub sink : {F : Type 0} → Code F → ℕ → Image → ℕ → ℕ → ℕ → Node → Try Sunk
 sink C zero d next w n x = finish C d next w n x
 sink C (suc l) d next w n x =
     cond (nat_lt 256 (length x.messages))
@@ -127,7 +127,7 @@ pub record Settled : Type 0 where
   pub root : Node
 
 -- the steps from the root on; the root itself is not written
-abbrev pub settle : Code → Image → ℕ → ℕ → Node → Try Settled
+abbrev pub settle : {F : Type 0} → Code F → Image → ℕ → ℕ → Node → Try Settled
 settle C d next w r =
     cond (nat_lt 256 (length r.messages))
     (bind (step C d next w r) (λ s.
@@ -136,7 +136,7 @@ settle C d next w r =
     (done (record { image = d; next = next; writes = w; root = r }))
 
 -- a root of 8 children is cut: its halves go to the next two free blocks, the lower first
-abbrev pub cut_if_full : Code → Image → ℕ → ℕ → Node → Try Settled
+abbrev pub cut_if_full : {F : Type 0} → Code F → Image → ℕ → ℕ → Node → Try Settled
 cut_if_full C d next w r =
     cond (length r.frame.children == 8)
     (bind (save d next (C.encode (lower_inner 3 r))) (λ e.
@@ -144,6 +144,6 @@ cut_if_full C d next w r =
     done (record { image = f; next = next + 2; writes = ((w + 1) % 2 ^ 64 + 1) % 2 ^ 64; root = new_root (slice_index r.frame.pivots 3) next r }))))
     (done (record { image = d; next = next; writes = w; root = r }))
 
-abbrev pub updated : Code → Image → ℕ → ℕ → Node → ℕ → Message → Try Settled
+abbrev pub updated : {F : Type 0} → Code F → Image → ℕ → ℕ → Node → ℕ → Message → Try Settled
 updated C d next w r k m =
     bind (cut_if_full C d next w r) (λ s. settle C s.image s.next s.writes (with_message C.algebra k m s.root))

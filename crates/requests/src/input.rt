@@ -21,12 +21,12 @@ pub fn parse_all(heap: Global, input: &[u8]) -> Result<Vec<Option<Call>>, AllocE
     Ok(asked)
 }
 
-// The calls of a run: opening, what the good lines ask for, closing.
+// The calls of a run: opening, what the good lines ask for, closing. Room for all is reserved first, which `collect` would not do.
 pub fn run_of(heap: Global, lines: &[Option<Call>]) -> Result<Vec<Call>, AllocError>
     ensures { IfOk result (λ v. v.items ≡ run_of lines.now) }
 {
-    once(Call::Open)
-        .chain(lines.iter().copied().flatten())
-        .chain(once(Call::Close))
-        .collect(heap)
+    let mut calls = Vec::with_capacity(heap, lines.len() + 2)?;
+    let good = lines.iter().copied().flatten();
+    calls.extend(once(Call::Open).chain(good).chain(once(Call::Close)))?;
+    Ok(calls)
 }

@@ -5,7 +5,8 @@ ghost use Rattle.rows.specs.Tables.{NumbersRoundTrip};
 
 use crate::row::Row;
 
-// Four impls: each width has an array type of its own, so a trait over them would be implemented as often.
+// Four impls: each width has an array type of its own, so a trait over them would be implemented as often. Bytes are read by index: a
+// `first_chunk` would keep a test of the length at run time, and a node's table is read by nothing else.
 impl Row for u8 {
     ghost coding = { number 1 };
 
@@ -18,7 +19,7 @@ impl Row for u8 {
     }
 
     fn read(bytes: &[u8]) -> u8 {
-        u8::from_be_bytes(*bytes.first_chunk().unwrap())
+        u8::from_be_bytes([bytes[0]])
     }
 }
 
@@ -34,7 +35,7 @@ impl Row for u16 {
     }
 
     fn read(bytes: &[u8]) -> u16 {
-        u16::from_be_bytes(*bytes.first_chunk().unwrap())
+        u16::from_be_bytes([bytes[0], bytes[1]])
     }
 }
 
@@ -50,7 +51,7 @@ impl Row for u32 {
     }
 
     fn read(bytes: &[u8]) -> u32 {
-        u32::from_be_bytes(*bytes.first_chunk().unwrap())
+        u32::from_be_bytes([bytes[0], bytes[1], bytes[2], bytes[3]])
     }
 }
 
@@ -66,7 +67,9 @@ impl Row for u64 {
     }
 
     fn read(bytes: &[u8]) -> u64 {
-        u64::from_be_bytes(*bytes.first_chunk().unwrap())
+        u64::from_be_bytes([
+            bytes[0], bytes[1], bytes[2], bytes[3], bytes[4], bytes[5], bytes[6], bytes[7],
+        ])
     }
 }
 

@@ -1,6 +1,5 @@
 -- Keys in order, and numbers in range.
 use Rattle.std.specs.Prelude.{ℕ, suc, ◌*◌, Bool, true, ◌&&◌, List, [], ◌∷◌, map, take, drop, nat_le, nat_lt}
-use Rattle.messages.specs.declared.entry.Entry.{Entry}
 use Rattle.rows.specs.Bytes.{number_of, all_zero}
 use Rattle.rows.specs.Coding.{Coding}
 use Rattle.rows.specs.Entries.{known, exact}
@@ -37,8 +36,8 @@ abbrev pub exact_row : List ℕ → Bool
 exact_row row = behind_key exact_message row
 
 -- the first n rows of a table: their keys rise, inside the span, and their values are known
-abbrev pub rows_in_order : {V : Type 0} → Coding (Entry V) → (List ℕ → Bool) → ℕ → ℕ → ℕ → List ℕ → Bool
-rows_in_order c known low high n bs = rising low high (map (λ e. e.key) (values_of c n bs)) && all_rows known c.size n bs
+abbrev pub rows_in_order : {X : Type 0} → Coding X → (X → ℕ) → (List ℕ → Bool) → ℕ → ℕ → ℕ → List ℕ → Bool
+rows_in_order c key known low high n bs = rising low high (map key (values_of c n bs)) && all_rows known c.size n bs
 
 -- the first n rows of a table are exact, and zeros follow
 abbrev pub rows_exact : {X : Type 0} → Coding X → (List ℕ → Bool) → ℕ → List ℕ → Bool

@@ -1,6 +1,5 @@
 // Reading a table of entries, with its rules, in one pass.
 ghost use Rattle.std.specs.Prelude.{◌≡◌, ℕ, ◌+◌, ◌*◌, ◌≤◌, Bool, true, List, ◌++◌, length, drop, vec_len, vec_capacity};
-ghost use Rattle.rows.specs.Entries.{entry_coding};
 ghost use Rattle.rows.specs.Tables.{values_of};
 ghost use Rattle.rules.specs.Keys.{behind_key, known_message, exact_message, rows_in_order, rows_exact};
 
@@ -58,6 +57,48 @@ impl Value for Message {
     }
 }
 
+// A row that begins with a key, and whose value may be unknown or inexact.
+pub trait KeyedRow: Row {
+    ghost key: { Self → ℕ };
+
+    // The row's value has a meaning.
+    ghost known: { List ℕ → Bool };
+
+    // The row has zeros where its value has no word.
+    ghost exact: { List ℕ → Bool };
+
+    fn key(self) -> u32
+        ensures { result ≡ key self };
+
+    fn is_known(row: &[u8]) -> bool
+        requires { Self.Row.coding.size ≤ length row.now }
+        ensures { result ≡ known row.now };
+
+    fn is_exact(row: &[u8]) -> bool
+        requires { Self.Row.coding.size ≤ length row.now }
+        ensures { result ≡ exact row.now };
+}
+
+impl<V: Value> KeyedRow for Entry<V> {
+    ghost key = { λ e. e.key };
+
+    ghost known = { behind_key V.known };
+
+    ghost exact = { behind_key V.exact };
+
+    fn key(self) -> u32 {
+        self.key
+    }
+
+    fn is_known(row: &[u8]) -> bool {
+        V::is_known(&row[4..])
+    }
+
+    fn is_exact(row: &[u8]) -> bool {
+        V::is_exact(&row[4..])
+    }
+}
+
 // What a pass over a table of entries found. Each is told of any table, whatever the other is.
 #[derive(Clone, Copy, PartialEq, Eq, Debug)]
 pub struct TablePass {
@@ -68,34 +109,33 @@ pub struct TablePass {
 }
 
 // Adds the entries of the first `count` rows to `entries`, which has room for them, and checks the whole table.
-pub fn read_entries<V: Value>(
+pub fn read_entries<T: KeyedRow>(
     table: &[u8],
     count: usize,
     span: Span,
-    entries: &mut Vec<Entry<V>>,
+    entries: &mut Vec<T>,
 ) -> TablePass
-    requires rows { (entry_coding V.Row.coding).size * count ≤ length table.now }
+    requires rows { T.Row.coding.size * count ≤ length table.now }
     requires room { vec_len entries.old + count ≤ vec_capacity entries.old }
-    ensures entries { entries.new.items ≡ entries.old.items ++ values_of (entry_coding V.Row.coding) count table.now }
+    ensures entries { entries.new.items ≡ entries.old.items ++ values_of T.Row.coding count table.now }
     ensures capacity { vec_capacity entries.new ≡ vec_capacity entries.old }
     ensures length { vec_len entries.new ≡ vec_len entries.old + count }
-    ensures order { result.in_order ≡ rows_in_order (entry_coding V.Row.coding) (behind_key V.known) span.low span.high count table.now }
-    ensures exact { result.exact ≡ rows_exact (entry_coding V.Row.coding) (behind_key V.exact) count table.now }
+    ensures order { result.in_order ≡ rows_in_order T.Row.coding T.key T.known span.low span.high count table.now }
+    ensures exact { result.exact ≡ rows_exact T.Row.coding T.exact count table.now }
 {
     let mut rest = table;
     let mut next = u64::from(span.low);
     let mut in_order = true;
     let mut exact = true;
     for _row in 0..count {
-        let entry = Entry::<V>::read(rest);
-        let key = u64::from(entry.key);
-        let value = &rest[4..];
+        let entry = T::read(rest);
+        let key = u64::from(entry.key());
         in_order &= (next..span.high).contains(&key);
-        in_order &= V::is_known(value);
-        exact &= V::is_exact(value);
+        in_order &= T::is_known(rest);
+        exact &= T::is_exact(rest);
         next = key + 1;
         entries.push_reserved(entry);
-        rest = &rest[Entry::<V>::size()..];
+        rest = &rest[T::size()..];
     }
     TablePass {
         in_order,

@@ -100,4 +100,10 @@ impl Header {
             next_free: self.next_free,
         }
     }
+    // The root's mark, where it is 1 or 2.
+    pub fn root_mark(&self) -> Mark
+        ensures { result ≡ mark_of self.now.mark }
+    {
+        Mark::try_from(self.mark).unwrap_or(Mark::InUse)
+    }
 }

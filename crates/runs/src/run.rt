@@ -8,7 +8,7 @@ ghost use Rattle.store_plan.specs.Pages.{table_length};
 ghost use Rattle.traces.specs.Runs.{called, Traced};
 ghost use Rattle.traces.specs.Steps.{Went};
 
-use crate::turn::{Book, Turn, close_book, make_call};
+use crate::turn::{Book, Turn, close_book, make_turn};
 use blocks::device::Device;
 use book::book::ClosedBook;
 use book::rooms::Rooms;
@@ -78,8 +78,14 @@ fn play<S: Device, D: Device>(
     ensures room { vec_len trace.new < vec_capacity trace.new }
 {
     for call in calls {
-        let Turn { book: after, point } = make_call(book, *call, table);
-        book = after;
+        let point = match book.make_call(*call, table) {
+            Some(point) => point,
+            None => {
+                let Turn { book: after, point } = make_turn(book, *call);
+                book = after;
+                point
+            }
+        };
         trace.push_reserved(point);
     }
     book

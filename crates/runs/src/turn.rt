@@ -1,10 +1,11 @@
 // One call on a book that is closed or open, and what is then seen.
-ghost use Rattle.std.specs.Prelude.{◌≡◌, length};
+ghost use Rattle.std.specs.Prelude.{◌≡◌, length, IfSome, IfNone};
 ghost use Rattle.book.specs.Views.{CountsFit};
 ghost use Rattle.runs.specs.Books.{closed_view, open_view, view};
+ghost use Rattle.runs.specs.Turns.{IsTurn};
 ghost use Rattle.store_plan.specs.Pages.{table_length};
 ghost use Rattle.traces.specs.Steps.{change_answer, Does, Made};
-ghost use Rattle.traces.specs.Views.{stock_reading, day_reading};
+ghost use Rattle.traces.specs.Views.{View, stock_reading, day_reading};
 
 use blocks::device::Device;
 use book::book::{ClosedBook, OpenBook};
@@ -39,6 +40,57 @@ impl<S: Device, D: Device> Book<S, D> {
             Book::Open(book) => book.readings(),
         }
     }
+
+    // What is seen after a call that was so answered.
+    fn point(&mut self, call: Call, answer: Answer) -> Point
+        ensures call { result.call ≡ call }
+        ensures made { (v : View) → Does v call answer (view self.old) → Made v result (view self.new) }
+    {
+        let (stock, day) = self.readings();
+        Point {
+            call,
+            answer,
+            stock,
+            day,
+        }
+    }
+
+    // Makes a call in place, and tells the answer. A call that does not fit the book is not made. None for a call that opens or closes a book, which
+    // moves it.
+    fn answer_call(&mut self, call: Call, table: &mut [Entry<u64>]) -> Option<Answer>
+        requires { length table.old ≡ table_length }
+        ensures made { IfSome result (λ answer. Does (view self.old) call answer (view self.new)) }
+        ensures left { IfNone result ((view self.new ≡ view self.old) × IsTurn call) }
+    {
+        match (self, call) {
+            (_, Call::Open | Call::Close) => None,
+            (Book::Closed(_), _) => Some(Answer::NotMade),
+            (Book::Open(book), Call::Booking { sheet, amount, day }) => {
+                Some(change_answer(book.booking(sheet, amount, day)))
+            }
+            (Book::Open(book), Call::Count { sheet, amount, day }) => {
+                Some(change_answer(book.count(sheet, amount, day)))
+            }
+            (Book::Open(book), Call::Strike { sheet }) => Some(change_answer(book.strike(sheet))),
+            (Book::Open(book), Call::Query { sheet }) => Some(answer_query(book, sheet)),
+            (Book::Open(book), Call::Total { low, high }) => {
+                Some(answer_total(book, low, high, table))
+            }
+            (Book::Open(book), Call::Figures { part }) => {
+                Some(Answer::Figures(book.figures(part)))
+            }
+        }
+    }
+
+    // Makes a call in place, and looks at the book. None for a call that opens or closes a book, which moves it.
+    pub(crate) fn make_call(&mut self, call: Call, table: &mut [Entry<u64>]) -> Option<Point>
+        requires { length table.old ≡ table_length }
+        ensures made { IfSome result (λ point. (point.call ≡ call) × Made (view self.old) point (view self.new)) }
+        ensures left { IfNone result ((view self.new ≡ view self.old) × IsTurn call) }
+    {
+        let answer = self.answer_call(call, table)?;
+        Some(self.point(call, answer))
+    }
 }
 
 // The answer of an update.
@@ -46,6 +98,28 @@ fn change_answer(made: Result<(), Refusal>) -> Answer
     ensures { result ≡ change_answer made }
 {
     made.map_or_else(Answer::Refused, |()| Answer::Done)
+}
+
+// Asks an open book for a sheet.
+fn answer_query<S: Device, D: Device>(book: &mut OpenBook<S, D>, sheet: u32) -> Answer
+    ensures { Does (open_view book.old) (Call.Query sheet) result (open_view book.new) }
+{
+    book.query(sheet)
+        .map_or_else(Answer::Refused, Answer::Found)
+}
+
+// Asks an open book for the total of a range of sheets.
+fn answer_total<S: Device, D: Device>(
+    book: &mut OpenBook<S, D>,
+    low: u32,
+    high: u32,
+    table: &mut [Entry<u64>],
+) -> Answer
+    requires { length table.old ≡ table_length }
+    ensures { Does (open_view book.old) (Call.Total low high) result (open_view book.new) }
+{
+    book.total(low, high, table)
+        .map_or_else(Answer::Refused, Answer::Total)
 }
 
 // Closes an open book, and tells the answer.
@@ -57,13 +131,9 @@ pub(crate) fn close_book<S: Device, D: Device>(book: OpenBook<S, D>) -> (ClosedB
     (book.close(), answer)
 }
 
-// Makes a call, and tells the answer. A call that does not fit the book is not made.
-fn answer_call<S: Device, D: Device>(
-    book: Book<S, D>,
-    call: Call,
-    table: &mut [Entry<u64>],
-) -> (Book<S, D>, Answer)
-    requires { length table.old ≡ table_length }
+// Makes a call that opens or closes a book, and tells the answer.
+fn turn_over<S: Device, D: Device>(book: Book<S, D>, call: Call) -> (Book<S, D>, Answer)
+    requires { IsTurn call }
     ensures { Does (view book) call result.1 (view result.0) }
 {
     match (book, call) {
@@ -71,34 +141,6 @@ fn answer_call<S: Device, D: Device>(
             let book = book.open();
             let (stock, day) = book.stops();
             (Book::Open(book), Answer::Opened { stock, day })
-        }
-        (Book::Open(mut book), Call::Booking { sheet, amount, day }) => {
-            let answer = change_answer(book.booking(sheet, amount, day));
-            (Book::Open(book), answer)
-        }
-        (Book::Open(mut book), Call::Count { sheet, amount, day }) => {
-            let answer = change_answer(book.count(sheet, amount, day));
-            (Book::Open(book), answer)
-        }
-        (Book::Open(mut book), Call::Strike { sheet }) => {
-            let answer = change_answer(book.strike(sheet));
-            (Book::Open(book), answer)
-        }
-        (Book::Open(mut book), Call::Query { sheet }) => {
-            let answer = book
-                .query(sheet)
-                .map_or_else(Answer::Refused, Answer::Found);
-            (Book::Open(book), answer)
-        }
-        (Book::Open(mut book), Call::Total { low, high }) => {
-            let answer = book
-                .total(low, high, table)
-                .map_or_else(Answer::Refused, Answer::Total);
-            (Book::Open(book), answer)
-        }
-        (Book::Open(book), Call::Figures { part }) => {
-            let answer = Answer::Figures(book.figures(part));
-            (Book::Open(book), answer)
         }
         (Book::Open(book), Call::Close) => {
             let (book, answer) = close_book(book);
@@ -108,25 +150,13 @@ fn answer_call<S: Device, D: Device>(
     }
 }
 
-// Makes a call on a book, and looks at the book.
-pub(crate) fn make_call<S: Device, D: Device>(
-    book: Book<S, D>,
-    call: Call,
-    table: &mut [Entry<u64>],
-) -> Turn<S, D>
-    requires { length table.old ≡ table_length }
+// Makes a call that opens or closes a book, and looks at the book.
+pub(crate) fn make_turn<S: Device, D: Device>(book: Book<S, D>, call: Call) -> Turn<S, D>
+    requires { IsTurn call }
     ensures call { result.point.call ≡ call }
     ensures made { Made (view book) result.point (view result.book) }
 {
-    let (mut book, answer) = answer_call(book, call, table);
-    let (stock, day) = book.readings();
-    Turn {
-        book,
-        point: Point {
-            call,
-            answer,
-            stock,
-            day,
-        },
-    }
+    let (mut book, answer) = turn_over(book, call);
+    let point = book.point(call, answer);
+    Turn { book, point }
 }

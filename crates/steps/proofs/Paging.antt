@@ -24,7 +24,7 @@ pub past : (x : Node) (k j high : ℕ) → j ≡ place_among x.frame.pivots k �
 past x k j high at ends within =
     let here : k < child_high x j = rw at (onward x.frame.pivots k x.frame.high within) in omega (arith, ends)
 
-module _ (C : Code) (d : Image) (next : ℕ) (x : Node) (first last : ℕ) (newer : List (Entry Message)) (n : ℕ) where
+module _ {F : Type 0} (C : Code F) (d : Image) (next : ℕ) (x : Node) (first last : ℕ) (newer : List (Entry Message)) (n : ℕ) where
   -- the rest of the way, from the child that was read
   abbrev further : ℕ → Fetched → Try Paged
   further l g = page_from C l g.image next g.child first last (gathered C.algebra first (page_end last g.child) x newer) (n + 1)

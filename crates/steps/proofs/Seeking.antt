@@ -11,7 +11,7 @@ use Rattle.plan.specs.Queries.{Answered, seek, by_verdict, judged, place_among}
 use Rattle.plan.specs.Steps.{Fetched, fetch_child}
 use Rattle.plan.specs.Reports.{Report}
 
-module _ (C : Code) (d : Image) (next : ℕ) (x : Node) (k : ℕ) (met : Option ℕ) (n : ℕ) where
+module _ {F : Type 0} (C : Code F) (d : Image) (next : ℕ) (x : Node) (k : ℕ) (met : Option ℕ) (n : ℕ) where
   -- the rest of the way, from the child that was read
   abbrev further : ℕ → Option ℕ → Fetched → Try Answered
   further l deltas g = seek C l g.image next g.child k deltas (n + 1)

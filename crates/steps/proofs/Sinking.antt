@@ -10,7 +10,7 @@ use Rattle.plan.specs.Reports.{Report}
 use Rattle.steps.specs.Causes.{tried}
 use Rattle.plan.specs.declared.cause.Cause.{Cause}
 
-module _ (C : Code) (d : Image) (next w at : ℕ) (x : Node) where
+module _ {F : Type 0} (C : Code F) (d : Image) (next w at : ℕ) (x : Node) where
   -- the rest of the way, once the step is made, and once the node is written too
   abbrev onward : ℕ → Step → Image → Try Sunk
   onward l s e = sink C l e s.next ((s.writes + 1) % 2 ^ 64) s.block s.child

@@ -1,6 +1,7 @@
 // The bench that queries, pages and updates work on: all the room that they need.
-ghost use Rattle.std.specs.Prelude.{◌≡◌, ◌+◌, ◌<◌, true, is_ok};
+ghost use Rattle.std.specs.Prelude.{◌≡◌, ◌+◌, ◌<◌, [], true, is_ok, IfOk};
 ghost use Rattle.node_ops.specs.CodeOf.{code_of};
+ghost use Rattle.nodes.specs.Roots.{empty_leaf};
 ghost use Rattle.nodes.specs.Shapes.{IsInner, MessagesFit};
 ghost use Rattle.nodes.specs.Views.{view};
 ghost use Rattle.plan.specs.Queries.{place_among};
@@ -29,8 +30,13 @@ pub struct Bench {
 }
 
 impl Bench {
-    // Only here may memory be short.
-    pub fn new(heap: Global) -> Result<Bench, AllocError> {
+    // A bench with nothing on it. Only here may memory be short.
+    pub fn new(heap: Global) -> Result<Bench, AllocError>
+        ensures here { IfOk result (λ b. view b.here ≡ empty_leaf 0 0) }
+        ensures beside { IfOk result (λ b. view b.beside ≡ empty_leaf 0 0) }
+        ensures gathered { IfOk result (λ b. b.gathering.gathered.items ≡ []) }
+        ensures page { IfOk result (λ b. b.gathering.entries.items ≡ []) }
+    {
         Ok(Bench {
             here: Node::new(heap)?,
             beside: Node::new(heap)?,

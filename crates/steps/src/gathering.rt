@@ -1,5 +1,5 @@
 // What a page gathers on its way down, and the page itself.
-ghost use Rattle.std.specs.Prelude.{◌≡◌, ℕ, ◌+◌, ◌<◌, ◌≤◌, Some, None, if◌then◌else◌, nat_lt, vec_capacity, vec_len};
+ghost use Rattle.std.specs.Prelude.{◌≡◌, ℕ, ◌+◌, ◌<◌, ◌≤◌, [], Some, None, IfOk, if◌then◌else◌, nat_lt, vec_capacity, vec_len};
 ghost use Rattle.nodes.specs.Views.{view};
 ghost use Rattle.plan.specs.Images.{Image};
 ghost use Rattle.plan.specs.Pages.{gathered as gathered_from, leaf_paged, page_end};
@@ -42,8 +42,12 @@ fn key_past(leaf: &Node, last: u32) -> Option<u32>
 }
 
 impl Gathering {
-    // Only here may memory be short.
-    pub fn new(heap: Global) -> Result<Gathering, AllocError> {
+    // Nothing is gathered yet. Only here may memory be short.
+    pub fn new(heap: Global) -> Result<Gathering, AllocError>
+        ensures gathered { IfOk result (λ g. g.gathered.items ≡ []) }
+        ensures spare { IfOk result (λ g. g.spare.items ≡ []) }
+        ensures entries { IfOk result (λ g. g.entries.items ≡ []) }
+    {
         Ok(Gathering {
             gathered: Vec::with_capacity(heap, MOST_GATHERED)?,
             spare: Vec::with_capacity(heap, MOST_GATHERED)?,

@@ -1,5 +1,7 @@
 // Room that a step works in.
-ghost use Rattle.std.specs.Prelude.{◌≤◌, vec_capacity};
+ghost use Rattle.std.specs.Prelude.{◌≡◌, ◌≤◌, [], IfOk, vec_capacity};
+ghost use Rattle.nodes.specs.Roots.{empty_leaf};
+ghost use Rattle.nodes.specs.Views.{view};
 
 use messages::entry::Entry;
 use messages::list::MOST_MOVING;
@@ -20,8 +22,11 @@ pub struct Scratch {
 }
 
 impl Scratch {
-    // Only here may memory be short.
-    pub fn new(heap: Global) -> Result<Scratch, AllocError> {
+    // Room with nothing in it. Only here may memory be short.
+    pub fn new(heap: Global) -> Result<Scratch, AllocError>
+        ensures other { IfOk result (λ s. view s.other ≡ empty_leaf 0 0) }
+        ensures batch { IfOk result (λ s. s.batch.items ≡ []) }
+    {
         Ok(Scratch {
             block: [0; BLOCK_SIZE],
             other: Node::new(heap)?,

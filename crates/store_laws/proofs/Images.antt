@@ -14,7 +14,7 @@ use Rattle.bridge.specs.Stored.{Stored}
 use Rattle.bridge.specs.Work.{AllSound}
 
 -- the root has no block in a stored tree, so that only the other blocks count
-pub stored_after : (C : Code) (d e : Image) (a : List Node) → ((b : ℕ) → 0 < b → e.bytes b ≡ d.bytes b) → Stored C d a → Stored C e a
+pub stored_after : {F : Type 0} (C : Code F) (d e : Image) (a : List Node) → ((b : ℕ) → 0 < b → e.bytes b ≡ d.bytes b) → Stored C d a → Stored C e a
 stored_after C d e a kept st = record { in_blocks = λ b inside below. kept b below ∙ st.in_blocks b inside below; words_fit = st.words_fit }
 
 pub on_device_after : (d e : Image) (a : List Node) → e.size ≡ d.size → OnDevice d a → OnDevice e a

@@ -1,4 +1,5 @@
 use Rattle.std.proofs.Common.{refl, ap, length, arith}
+use Rattle.fields.specs.Handed.{lines_left}
 use Rattle.fields.proofs.Lined.{few_lines}
 use Rattle.requests.proofs.input.parse_all.Goals as goal
 
@@ -9,5 +10,5 @@ loop-line-init c =
     let left = c.new-line-items.ensures.left in
     record {
       made = rw (asked.items, lines, left) refl;
-      room = omega (arith, few_lines c.args.input.now, ap length lines, ap length left, asked.len, asked.capacity);
+      room = omega (arith, few_lines c.args.input.now, ap (λ s. length (lines_left s)) lines, ap length left, asked.len, asked.capacity);
     }
