@@ -6,8 +6,8 @@ use Rattle.std.proofs.lemmas.Iterator.Adapters.{YieldsList-from_once, YieldsList
 use Rattle.calls.specs.declared.call.Call.TheVariants.{Open, Close}
 use Rattle.requests.proofs.input.run_of.Goals as goal
 
-pub returns : goal.returns
-returns c =
+pub returns-clause-calls : goal.returns-clause-calls
+returns-clause-calls c =
     let lines = YieldsList-from_copied (YieldsList-at c.copied.ensures.source (YieldsList-from_slice c.args.lines.now cc)) in
     let made =
     items_from_extend {E = Unit {0}} (Ok (tt {0})) c.in_ok-extend.ensures.ran
